@@ -7,9 +7,13 @@
 #![tactic(auto)]
 
 mod failed;
+mod mem_shelf;
+mod mem_sink;
 mod shelf;
 mod sink;
 
 pub use failed::Failed;
+pub use mem_shelf::{File, MemShelf};
+pub use mem_sink::MemSink;
 pub use shelf::{ReadEnd, Shelf, read_all};
 pub use sink::{Sink, put_all};
