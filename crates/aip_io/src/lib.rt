@@ -6,14 +6,18 @@
 //! faults shows that a failure came from the shelf or the sink and not from the code that uses it.
 #![tactic(auto)]
 
+mod dir_shelf;
 mod failed;
 mod mem_shelf;
 mod mem_sink;
 mod shelf;
 mod sink;
+mod std_sink;
 
+pub use dir_shelf::DirShelf;
 pub use failed::Failed;
 pub use mem_shelf::{File, MemShelf};
 pub use mem_sink::MemSink;
 pub use shelf::{ReadEnd, Shelf, read_all};
 pub use sink::{Sink, put_all};
+pub use std_sink::StdSink;
