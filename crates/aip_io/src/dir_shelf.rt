@@ -2,11 +2,10 @@
 ghost use Rattle.std.specs.Prelude.{◌≡◌, ◌≤◌, length, IfOk};
 
 use crate::{Failed, Shelf};
-use std::fs;
-use std::io;
 use std::io::{Read, Seek, SeekFrom};
 use std::marker::Model;
 use std::rt::Files;
+use std::{fs, io};
 
 // The longest name, in bytes, of a file that is kept open.
 const NAME_ROOM: usize = 256;

@@ -21,3 +21,6 @@ pub use mem_sink::MemSink;
 pub use shelf::{ReadEnd, Shelf, read_all};
 pub use sink::{Sink, put_all};
 pub use std_sink::StdSink;
+
+#[cfg(test)]
+mod tests;

@@ -44,11 +44,11 @@ impl Model for MemShelf {
     ghost Value = { ShelfState };
 
     ghost view = { λ shelf. record {
-        files = shelf.files.items;
-        failing = shelf.failing.items;
-        most = shelf.most;
-        calls = shelf.calls;
-        counts = shelf.counts.items
+      files = shelf.files.items;
+      failing = shelf.failing.items;
+      most = shelf.most;
+      calls = shelf.calls;
+      counts = shelf.counts.items;
     } };
 
     ghost invariant = { λ shelf. (1 ≤ shelf.most) × (length shelf.counts.items ≡ length shelf.files.items + 1) };

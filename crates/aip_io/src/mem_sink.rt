@@ -27,12 +27,12 @@ impl Model for MemSink {
     ghost Value = { SinkState };
 
     ghost view = { λ sink. record {
-        taken = sink.taken.items;
-        room = sink.room;
-        failing = sink.failing.items;
-        most = sink.most;
-        calls = sink.calls;
-        faults = sink.faults
+      taken = sink.taken.items;
+      room = sink.room;
+      failing = sink.failing.items;
+      most = sink.most;
+      calls = sink.calls;
+      faults = sink.faults;
     } };
 
     ghost invariant = { λ sink. (1 ≤ sink.most) × (vec_len sink.taken ≤ sink.room) × (sink.room ≤ vec_capacity sink.taken) };
@@ -49,7 +49,13 @@ impl MemSink {
     ) -> Result<MemSink, AllocError>
         requires { 1 ≤ most }
         ensures { IfOk result (λ sink. sink ≡ record {
-            taken = []; room = room; failing = failing.items; most = most; calls = 0; faults = 0 }) }
+          taken = [];
+          room = room;
+          failing = failing.items;
+          most = most;
+          calls = 0;
+          faults = 0;
+        }) }
     {
         Ok(MemSink {
             taken: Vec::with_capacity(alloc, room)?,
@@ -107,7 +113,10 @@ impl Sink for MemSink {
             ⊎ (self.old.room ≤ length self.old.taken)) }
         ensures count { IfOk result (λ n. n ≡ given (length piece.now) self.old.most (self.old.room - length self.old.taken)) }
         ensures changes { self.new ≡ record self.old {
-            taken = self.new.taken; calls = counted self.old.calls; faults = self.new.faults } }
+          taken = self.new.taken;
+          calls = counted self.old.calls;
+          faults = self.new.faults;
+        } }
         ensures faults { OnErr result (self.new.faults ≡ counted self.old.faults) }
     {
         self.calls = self.calls.saturating_add(1);
