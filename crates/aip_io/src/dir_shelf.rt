@@ -1,5 +1,5 @@
 // Texts in the files of the system.
-ghost use Rattle.std.specs.Prelude.{◌≡◌, ◌≤◌, length, IfOk};
+ghost use Rattle.std.specs.Prelude.{◌≡◌, ◌↔◌, ◌<◌, ◌≤◌, length, take, IsTrue, IsNone, IfSome, IfOk};
 
 use crate::{Failed, Shelf};
 use std::io::{Read, Seek, SeekFrom};
@@ -10,7 +10,7 @@ use std::{fs, io};
 // The longest name, in bytes, of a file that is kept open.
 const NAME_ROOM: usize = 256;
 
-// The name of a file that is kept open.
+// The name of a file that is kept open: the first bytes of an array.
 #[derive(Clone, Copy)]
 struct KeptName {
     bytes: [u8; NAME_ROOM],
@@ -18,7 +18,10 @@ struct KeptName {
 }
 
 impl KeptName {
-    fn new(name: &str) -> Option<KeptName> {
+    fn new(name: &str) -> Option<KeptName>
+        ensures long { IsNone result ↔ (NAME_ROOM < length name.now) }
+        ensures name { IfSome result (λ kept. take kept.length kept.bytes ≡ name.now) }
+    {
         let length = name.len();
         if length > NAME_ROOM {
             return None;
@@ -29,7 +32,9 @@ impl KeptName {
         Some(KeptName { bytes, length })
     }
 
-    fn is(&self, name: &str) -> bool {
+    fn is(&self, name: &str) -> bool
+        ensures { IsTrue result ↔ ((self.now.length ≤ NAME_ROOM) × (take self.now.length self.now.bytes ≡ name.now)) }
+    {
         match self.bytes.get(..self.length) {
             Some(kept) => kept == name.as_bytes(),
             None => false,

@@ -1,4 +1,4 @@
-use Rattle.std.proofs.Common.{◌≡◌, ◌≤◌, ◌+◌, ◌++◌, take, vec_len, arith, rules, ℕ, List}
+use Rattle.std.proofs.Common.{◌≡◌, take, vec_len, arith}
 use Rattle.std.proofs.lemmas.Option.{IfSome_then}
 use Rattle.aip_io.proofs.Pieces.{read_more}
 use Rattle.aip_io.proofs.shelf.read_on.Goals as goal

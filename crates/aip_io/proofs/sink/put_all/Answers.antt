@@ -1,6 +1,5 @@
-use Rattle.std.proofs.Common.{arith, ◌∙◌, rules, ◌-◌, ◌+◌, length, take, drop, ◌≡◌, ◌≤◌, ◌++◌, length-drop}
+use Rattle.std.proofs.Common.{arith, ◌∙◌, ◌-◌, length, take, drop, ◌≡◌, length-drop}
 use Rattle.std.proofs.lemmas.Result.{err_from_is_err_and}
-use Rattle.aip_io.specs.Sink.{and_then}
 use Rattle.aip_io.proofs.Pieces.{took_more, took_part, rest_of}
 use Rattle.aip_io.proofs.sink.put_all.Goals as goal
 
