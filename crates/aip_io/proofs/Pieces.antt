@@ -1,0 +1,29 @@
+-- Texts that are put or read in pieces.
+use Rattle.std.proofs.Common.{◌≡◌, ℕ, ◌+◌, ◌-◌, ◌≤◌, List, ◌++◌, length, take, drop, Option, ap, sym, ◌∙◌, subst, arith}
+use Rattle.std.proofs.lemmas.Grind.{common_steps}
+use Rattle.std.proofs.Math.Seq.{take-add}
+use Rattle.std.proofs.lemmas.List.{take-append-drop, take-take, length-take}
+use Rattle.aip_io.specs.Shelf.{IsRead}
+use Rattle.aip_io.specs.Sink.{and_then, and_then-and_then, TookPart}
+
+-- a piece more was taken
+pub took_more : (before mid now : Option (List ℕ)) (at n : ℕ) (bytes : List ℕ) → mid ≡ and_then before (take at bytes) → now ≡ and_then mid (take n (drop at bytes)) → now ≡ and_then before (take (at + n) bytes)
+took_more before mid now at n bytes so_far more =
+    more ∙ ap (λ o. and_then o (take n (drop at bytes))) so_far ∙ and_then-and_then before (take at bytes) (take n (drop at bytes)) ∙ ap (and_then before) (sym (take-add at n bytes))
+
+-- what was taken before a failure is a first part
+pub took_part : (before mid now : Option (List ℕ)) (at : ℕ) (bytes : List ℕ) → mid ≡ and_then before (take at bytes) → now ≡ mid → TookPart before now bytes
+took_part before mid now at bytes so_far nothing =
+    record { part = take at bytes; rest = drop at bytes; whole = take-append-drop at bytes; took = nothing ∙ so_far }
+
+-- the bytes that are kept of a read go on with the text
+pub read_more : (told piece old new : List ℕ) (len at came kept count : ℕ) → IsRead told at came piece → at ≡ len → came ≤ length piece → kept ≤ came → old ≡ take len told → new ≡ old ++ take kept piece → count ≡ len + length (take kept piece) → new ≡ take count told
+read_more told piece old new len at came kept count read at_end within some so_far more counted =
+    let kept_is : take kept piece ≡ take kept (drop at told) = sym (take-take kept came piece some) ∙ ap (take kept) read.bytes ∙ take-take kept came (drop at told) some in
+    let there : take kept piece ≡ take kept (drop len told) = subst (λ n. take kept piece ≡ take kept (drop n told)) at_end kept_is in
+    let count_is : count ≡ len + kept = omega (arith, length-take kept piece) in
+    more ∙ ap (λ p. old ++ p) there ∙ ap (λ o. o ++ take kept (drop len told)) so_far ∙ sym (take-add len kept told) ∙ ap (λ n. take n told) (sym count_is)
+
+-- a slice from an offset on
+pub rest_of : (at : ℕ) (bytes : List ℕ) → take (length bytes - at) (drop at bytes) ≡ drop at bytes
+rest_of at bytes = grind (arith, common_steps)
