@@ -1,0 +1,4 @@
+pub mod Bytes
+pub mod Fitting
+pub mod Spelled
+pub mod Frames

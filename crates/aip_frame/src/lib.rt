@@ -1,0 +1,27 @@
+//! Frames: what travels over the links of the network.
+//!
+//! A frame has 90 bytes and a body. Each frame has one spelling, with numbers big-endian:
+//!
+//! | bytes | field |
+//! |---|---|
+//! | 0 | version, 1 |
+//! | 1 | kind: 0 data, 1 challenge, 2 response, 3 shut-off |
+//! | 2 | hop limit |
+//! | 3 | 0 |
+//! | 4..8 | packet id |
+//! | 8..48 | destination, a domain's id and a host's or router's |
+//! | 48..88 | source, likewise |
+//! | 88..90 | length of the body, at most 9126, and 154 in a challenge |
+//! | 90.. | body |
+#![tactic(auto)]
+
+mod fields;
+mod frame;
+mod spelling;
+
+pub use fields::{body_of, from_of, hop_of, is_frame, kind_of, packet_of, set_hop, to_of};
+pub use frame::{Frame, Kind};
+pub use spelling::encode;
+
+#[cfg(test)]
+mod tests;
