@@ -1,6 +1,5 @@
 use crate::input::Target;
-use aip_addr::{Address, Id, KeyId, Name};
-use aip_addr::Bytes;
+use aip_addr::{Address, Bytes, Id, KeyId, Name};
 use std::alloc::{AllocError, Global};
 use std::marker::Model;
 

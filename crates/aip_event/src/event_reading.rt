@@ -1,19 +1,32 @@
-ghost use Rattle.std.specs.Prelude.{◌≡◌, IfOk};
+ghost use Rattle.std.specs.Prelude.{◌≡◌, IfNone, IfOk, IfSome};
 ghost use Rattle.aip_text.specs.Words.{number_of};
+ghost use Rattle.aip_event.specs.declared.event.Event.{Event};
 ghost use Rattle.aip_event.specs.declared.event.Event.TheVariants as event;
+ghost use Rattle.aip_event.specs.Lines.{IsEvent, event_line};
 ghost use Rattle.aip_event.specs.Reading.{ask_of, drop_of, event_from, event_of, forward_of, got_of, heard_of, host_event_from, obeyed_of, of_three, proved_of, put_of, refuse_of, signed_of, stopped_of, target_of, wild_of, withheld_of};
 
 use crate::event::Event;
-use crate::fields::{four_words, read_address, read_cause, read_id, read_key_id, read_name, read_reason, read_target, three_words};
+use crate::fields::{
+    four_words, read_address, read_cause, read_id, read_key_id, read_name, read_reason,
+    read_target, three_words,
+};
 use aip_addr::Bytes;
 use aip_text::{cut, read_bytes, read_number};
 use std::alloc::{AllocError, Global};
 
 /// The event that the line spells, without its line feed, and None where it is no line of an event.
 /// The only error is want of memory.
-#[tactic(auto, unfolding(crate::specs::Reading::event_of))]
 pub fn read_event(alloc: Global, line: &[u8]) -> Result<Option<Event>, AllocError>
     ensures exact { IfOk result (λ found. found ≡ event_of line.now) }
+    ensures found { IfOk result (λ found. IfSome found (λ e. IsEvent e × (line.now ≡ event_line e))) }
+    ensures none { IfOk result (λ found. IfNone found ((e : Event) → IsEvent e → line.now ≡ event_line e → ⊥)) }
+{
+    event_in(alloc, line)
+}
+
+#[tactic(auto, unfolding(crate::specs::Reading::event_of))]
+fn event_in(alloc: Global, line: &[u8]) -> Result<Option<Event>, AllocError>
+    ensures { IfOk result (λ found. found ≡ event_of line.now) }
 {
     match cut(line) {
         Some((key, rest)) => read_fields(alloc, key, rest),

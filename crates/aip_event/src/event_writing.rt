@@ -3,7 +3,10 @@ ghost use Rattle.aip_event.specs.declared.event.Event.TheVariants as event;
 ghost use Rattle.aip_event.specs.Lines.{event_line};
 
 use crate::event::{Cause, Event, Reason};
-use crate::fields::{push_address, push_content, push_count, push_id, push_key_id, push_target, word_of_cause, word_of_reason};
+use crate::fields::{
+    push_address, push_content, push_count, push_id, push_key_id, push_target, word_of_cause,
+    word_of_reason,
+};
 use crate::input::Target;
 use crate::shapes::{name_line, name_number_line, name_numbers_line, number_line};
 use aip_addr::{Address, Bytes, Id, KeyId, Name};

@@ -7,7 +7,10 @@ ghost use Rattle.aip_event.specs.Reading.{address_of_word, cause_of, four_words,
 use crate::event::{Cause, Reason};
 use crate::input::Target;
 use aip_addr::{Address, Bytes, Id, KeyId, Name};
-use aip_text::{cut, cut_at, push_bytes, push_hex, push_number, push_space, push_text, push_word, read_hex_19, read_hex_20, read_number};
+use aip_text::{
+    cut, cut_at, push_bytes, push_hex, push_number, push_space, push_text, push_word, read_hex_19,
+    read_hex_20, read_number,
+};
 use std::alloc::AllocError;
 
 // ---- reading

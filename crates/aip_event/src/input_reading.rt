@@ -1,6 +1,8 @@
-ghost use Rattle.std.specs.Prelude.{◌≡◌, ℕ, List, IfOk, Option};
+ghost use Rattle.std.specs.Prelude.{◌≡◌, IfNone, IfOk, IfSome};
 ghost use Rattle.aip_text.specs.Words.{bytes_of, number_of};
+ghost use Rattle.aip_event.specs.declared.input.Input.{Input};
 ghost use Rattle.aip_event.specs.declared.input.Input.TheVariants as input;
+ghost use Rattle.aip_event.specs.Lines.{IsInput, input_line};
 ghost use Rattle.aip_event.specs.Reading.{cut_of, deliver_of, inject_of, input_from, input_of, mend_of, name_of, of_four, of_two, raw_of, restart_of, send_of, shutoff_of, stop_of, target_of, tick_of};
 
 use crate::fields::{four_words, read_name, read_target, three_words};
@@ -11,9 +13,17 @@ use std::alloc::{AllocError, Global};
 
 /// The input that the line spells, without its line feed, and None where it is no line of an input.
 /// The only error is want of memory.
-#[tactic(auto, unfolding(crate::specs::Reading::input_of))]
 pub fn read_input(alloc: Global, line: &[u8]) -> Result<Option<Input>, AllocError>
     ensures exact { IfOk result (λ found. found ≡ input_of line.now) }
+    ensures found { IfOk result (λ found. IfSome found (λ i. IsInput i × (line.now ≡ input_line i))) }
+    ensures none { IfOk result (λ found. IfNone found ((i : Input) → IsInput i → line.now ≡ input_line i → ⊥)) }
+{
+    input_in(alloc, line)
+}
+
+#[tactic(auto, unfolding(crate::specs::Reading::input_of))]
+fn input_in(alloc: Global, line: &[u8]) -> Result<Option<Input>, AllocError>
+    ensures { IfOk result (λ found. found ≡ input_of line.now) }
 {
     match cut(line) {
         Some((key, rest)) => read_fields(alloc, key, rest),

@@ -12,9 +12,10 @@ use Rattle.aip_text.proofs.HexWords.{list_all-encode_lower}
 -- a byte that passes a test isn't one that fails it
 other_byte : (p : ℕ → Bool) (byte b : ℕ) → p byte ≡ false → p b ≡ true → not (b == byte) ≡ true
 other_byte p byte b fails passes = tell (b == byte) (λ same. let e : b ≡ byte = eqb-true b byte same in different (sym passes ∙ ap p e ∙ fails))
-    where
+  where
     different : true ≡ false → ⊥
     different h = cc h
+
     tell : (t : Bool) → (t ≡ true → ⊥) → not t ≡ true
     tell true h = absurd (h refl)
     tell false h = refl
