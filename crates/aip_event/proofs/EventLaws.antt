@@ -1,11 +1,11 @@
 -- Events and their lines: what is read is spelled so, and what is spelled so is read.
-use Rattle.std.proofs.Common.{◌≡◌, ℕ, true, List, [], ◌∷◌, ◌++◌, Option, Some, None, refl, sym, ap, ◌∙◌}
+use Rattle.std.proofs.Common.{◌≡◌, ℕ, true, List, ◌∷◌, ◌++◌, Option, Some, None, refl, sym, ap, ◌∙◌}
 use Rattle.std.specs.Prelude.{IfNone, IfSome, codes, decimal}
 use Rattle.std.proofs.lemmas.Option.{none-some}
 use Rattle.aip_text.specs.Words.{bytes_word, cut, lacks}
 use Rattle.aip_text.proofs.Texts.{cut_at_again, cut_at_found}
 use Rattle.aip_event.specs.Lines.{IsEvent, address_word, cause_word, event_line, id_word, key_id_word, reason_word, target_word}
-use Rattle.aip_event.specs.Reading.{ask_of, drop_of, event_from, event_of, forward_of, got_of, heard_of, host_event_from, obeyed_of, proved_of, put_of, refuse_of, signed_of, stopped_of, wild_of, withheld_of, ◌>>=◌}
+use Rattle.aip_event.specs.Reading.{ask_of, drop_of, event_from, event_of, forward_of, got_of, heard_of, host_event_from, obeyed_of, proved_of, put_of, refuse_of, signed_of, stopped_of, wild_of, withheld_of}
 use Rattle.aip_event.specs.declared.event.Event.{Event}
 use Rattle.aip_event.specs.declared.event.Event.TheVariants as event
 use Rattle.aip_event.proofs.FieldLaws.{address_field, bytes_field, cause_field, id_field, key_id_field, name_field, number_field, reason_field, target_field}

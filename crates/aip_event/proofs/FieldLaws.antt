@@ -1,9 +1,8 @@
 -- The fields of lines: what is read is spelled so, and what is spelled so is read.
-use Rattle.std.proofs.Common.{◌≡◌, ℕ, ◌<◌, ◌^◌, Bool, true, false, cond, List, [], ◌∷◌, ◌++◌, length, Option, Some, None, refl, sym, ap, subst, ◌∙◌}
+use Rattle.std.proofs.Common.{◌≡◌, ℕ, true, cond, List, ◌∷◌, ◌++◌, Option, Some, None, refl, ap, subst, ◌∙◌}
 use Rattle.std.specs.Prelude.{codes, decimal, ⊤}
-use Rattle.std.specs.Str.{bytes_eq}
 use Rattle.std.proofs.lemmas.Option.{cond_some, none-some, same_Some}
-use Rattle.hex.specs.Hex.{IsBytes, encode_lower}
+use Rattle.hex.specs.Hex.{IsBytes}
 use Rattle.aip_addr.specs.Naming.{IsName, is_name}
 use Rattle.aip_addr.specs.declared.ids.Id.{Id}
 use Rattle.aip_addr.specs.declared.ids.KeyId.{KeyId}

@@ -1,11 +1,11 @@
 -- Inputs and their lines: what is read is spelled so, and what is spelled so is read.
-use Rattle.std.proofs.Common.{◌≡◌, ℕ, true, List, [], ◌∷◌, ◌++◌, Option, Some, None, Result, Ok, Err, refl, sym, ap, subst, ◌∙◌}
+use Rattle.std.proofs.Common.{◌≡◌, ℕ, true, List, ◌∷◌, ◌++◌, Option, Some, None, Result, Ok, Err, refl, sym, ap, ◌∙◌}
 use Rattle.std.specs.Prelude.{IfNone, IfOk, IfSome, codes, decimal}
 use Rattle.std.proofs.lemmas.Option.{none-some}
 use Rattle.aip_text.specs.Words.{bytes_word, cut, lacks}
 use Rattle.aip_text.proofs.Texts.{cut_at_again, cut_at_found}
 use Rattle.aip_event.specs.Lines.{IsInput, input_line, target_word}
-use Rattle.aip_event.specs.Reading.{cut_of, deliver_of, inject_of, input_from, input_of, mend_of, raw_of, restart_of, send_of, shutoff_of, stop_of, tick_of, ◌>>=◌}
+use Rattle.aip_event.specs.Reading.{cut_of, deliver_of, inject_of, input_from, input_of, mend_of, raw_of, restart_of, send_of, shutoff_of, stop_of, tick_of}
 use Rattle.aip_event.specs.declared.input.Input.{Input}
 use Rattle.aip_event.specs.declared.input.Input.TheVariants as input
 use Rattle.aip_event.proofs.FieldLaws.{bytes_field, name_field, number_field, target_field}

@@ -17,3 +17,6 @@ pub use event_writing::write_event;
 pub use input::{Input, Target};
 pub use input_reading::read_input;
 pub use input_writing::write_input;
+
+#[cfg(test)]
+mod tests;
