@@ -1,0 +1,19 @@
+//! The words of the text files: numbers, bytes in hex, lines and their words.
+//!
+//! A text is lines, each ended by a line feed. A line is words with one space between them. Each
+//! value has one spelling: a number is decimal without a leading zero, bytes are pairs of hex digits
+//! in lower case. A reader takes just that spelling, and a writer appends it.
+#![tactic(auto)]
+
+mod lines;
+mod reading;
+mod writing;
+
+pub use lines::{FirstLine, has_carriage_return, is_skipped, next_line};
+pub use reading::{
+    cut, cut_at, read_bytes, read_hex, read_hex_19, read_hex_20, read_hex_32, read_number,
+};
+pub use writing::{push_bytes, push_hex, push_number, push_space, push_text, push_word};
+
+#[cfg(test)]
+mod tests;
