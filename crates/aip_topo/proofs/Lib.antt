@@ -1,1 +1,4 @@
 pub mod Judging
+pub mod Distinct
+pub mod WellFormed
+pub mod Soundness

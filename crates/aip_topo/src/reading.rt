@@ -1,6 +1,7 @@
 ghost use Rattle.std.specs.Prelude.{◌≡◌, ◌<◌, ◌≤◌, ◌+◌, Some, IfOk, IfErr, OnOk, length};
 ghost use Rattle.aip_text.specs.Lines.{lines_of};
 ghost use Rattle.aip_topo.specs.Lines.{line_of};
+ghost use Rattle.aip_topo.specs.Sound.{IsSound};
 ghost use Rattle.aip_topo.specs.Reading.{Tells, empty_draft, is_long, is_seed, topology_of, with_lines, with_read, with_text};
 
 use crate::faults::{TopoEnd, TopoFault};
@@ -21,6 +22,14 @@ const LONGEST_TEXT: usize = 1_048_576;
 /// The topology that the text gives. A refusal names the first line that is refused, with the first
 /// fault that applies to it.
 pub fn read(alloc: Global, text: &[u8]) -> Result<Topology, TopoEnd>
+    ensures found { IfOk result (λ topology. topology_of text.now ≡ Ok topology) }
+    ensures sound { IfOk result IsSound }
+    ensures refused { IfErr result (λ end. Tells end (topology_of text.now)) }
+{
+    read_exactly(alloc, text)
+}
+
+fn read_exactly(alloc: Global, text: &[u8]) -> Result<Topology, TopoEnd>
     ensures found { IfOk result (λ topology. topology_of text.now ≡ Ok topology) }
     ensures refused { IfErr result (λ end. Tells end (topology_of text.now)) }
 {
