@@ -1,5 +1,5 @@
 -- Texts of which no two are the same, with one more.
-use Rattle.std.proofs.Common.{◌≡◌, ℕ, Bool, true, false, ◌||◌, List, [], ◌∷◌, ◌++◌, map, refl, sym, ap, ◌∙◌}
+use Rattle.std.proofs.Common.{◌≡◌, ℕ, Bool, false, List, [], ◌∷◌, ◌++◌, refl, sym, ◌∙◌}
 use Rattle.std.specs.List.{list_any, AllByRecursion}
 use Rattle.std.specs.Str.{bytes_eq}
 use Rattle.std.proofs.lemmas.Bool.{false_from_ne_true, both_ways, or_from, or_parts}
@@ -22,7 +22,7 @@ inserted (w ∷ ws) ys x differ new =
     let test : List ℕ → Bool = λ other. bytes_eq other w in
     let before = or_parts (list_any test ws) (list_any test ys) (sym (list_any-append test ws ys) ∙ differ.0) in
     let lacks : has_text w (ws ++ x ∷ ys) ≡ false =
-      list_any-append test ws (x ∷ ys) ∙ or_from (list_any test ws) (list_any test (x ∷ ys)) before.0 (or_from (bytes_eq x w) (list_any test ys) (other_way w x apart.0) before.1) in
+    list_any-append test ws (x ∷ ys) ∙ or_from (list_any test ws) (list_any test (x ∷ ys)) before.0 (or_from (bytes_eq x w) (list_any test ys) (other_way w x apart.0) before.1) in
     (lacks, inserted ws ys x differ.1 apart.1)
 
 -- one more behind all others
@@ -32,7 +32,7 @@ added (w ∷ ws) x differ new =
     let apart = or_parts (bytes_eq w x) (has_text x ws) new in
     let test : List ℕ → Bool = λ other. bytes_eq other w in
     let lacks : has_text w (ws ++ x ∷ []) ≡ false =
-      list_any-append test ws (x ∷ []) ∙ or_from (list_any test ws) (list_any test (x ∷ [])) differ.0 (or_from (bytes_eq x w) false (other_way w x apart.0) refl) in
+    list_any-append test ws (x ∷ []) ∙ or_from (list_any test ws) (list_any test (x ∷ [])) differ.0 (or_from (bytes_eq x w) false (other_way w x apart.0) refl) in
     (lacks, added ws x differ.1 apart.1)
 
 -- a fact of all, and of one more

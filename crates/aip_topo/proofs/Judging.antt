@@ -1,8 +1,7 @@
 -- What an entry that is accepted meets.
-use Rattle.std.proofs.Common.{◌≡◌, ℕ, ◌==◌, ◌<◌, ◌≤◌, ◌||◌, Bool, true, false, cond, not, nat_lt, nat_le, List, length, IsTrue, IfOk, Option, Some, None, Result, Ok, Err, refl, sym, ap, subst, arith, ◌∙◌}
+use Rattle.std.proofs.Common.{◌≡◌, ℕ, Bool, true, false, cond, nat_lt, nat_le, length, IsTrue, IfOk, Option, Some, None, Result, Ok, Err, refl, sym, ap, subst, arith, ◌∙◌}
 use Rattle.std.specs.Option.{option_map, option_and_then}
 use Rattle.std.proofs.lemmas.Bool.Decides.{nat_tests}
-use Rattle.aip_addr.specs.declared.ids.Id.{Id}
 use Rattle.aip_topo.specs.declared.faults.TopoFault.{TopoFault}
 use Rattle.aip_topo.specs.declared.lines.Line.{Line}
 use Rattle.aip_topo.specs.declared.lines.Line.TheVariants as line
@@ -11,7 +10,7 @@ use Rattle.aip_topo.specs.declared.steps.Draft.{Draft}
 use Rattle.aip_topo.specs.declared.steps.Entry.{Entry}
 use Rattle.aip_topo.specs.declared.steps.Entry.TheVariants as entry
 use Rattle.aip_topo.specs.declared.topology.Topology.{Topology}
-use Rattle.aip_topo.specs.Steps.{is_many, is_twice, entry_of, is_out_of_range, is_twin, judged, entry_or_fault, fits, most_of, domain_place, router_place, ad_at}
+use Rattle.aip_topo.specs.Steps.{is_many, is_twice, entry_of, is_out_of_range, is_twin, judged, entry_or_fault, fits, domain_place, router_place, ad_at}
 
 -- past a test that refuses
 pub past : {A E : Type 0} (b : Bool) (d : E) (y : Result A E) (x : A) → cond b (Err d) y ≡ Ok x → (b ≡ false) × (y ≡ Ok x)

@@ -1,24 +1,23 @@
 -- Every topology that is read is sound.
-use Rattle.std.proofs.Common.{◌≡◌, ℕ, ◌+◌, ◌<◌, ◌≤◌, Bool, true, false, cond, ◌||◌, not, nat_lt, nat_le, List, [], ◌∷◌, ◌++◌, length, map, take, Option, Some, None, Result, Ok, Err, IsTrue, IfOk, refl, sym, ap, subst, ◌∙◌, arith, length-append, append_assoc}
+use Rattle.std.proofs.Common.{◌≡◌, ℕ, ◌+◌, ◌<◌, ◌≤◌, Bool, true, false, cond, ◌||◌, nat_lt, List, [], ◌∷◌, ◌++◌, length, map, take, Option, Some, None, Result, Ok, Err, IfOk, refl, sym, ap, subst, ◌∙◌, arith, length-append, append_assoc}
 use Rattle.std.specs.Prelude.{count_by, get_or, slice_get, position}
 use Rattle.std.proofs.Common.{lit≤}
 use Rattle.std.proofs.Math.ListN.{get_or-append}
 use Rattle.std.specs.Str.{bytes_eq}
-use Rattle.std.specs.List.{list_any, AllByRecursion, position_or_len, sum_by}
+use Rattle.std.specs.List.{list_any, AllByRecursion, position_or_len}
 use Rattle.std.specs.Option.{option_map, option_and_then}
 use Rattle.std.proofs.lemmas.Bool.{leb-false, ltb-true, or_from, or_parts}
 use Rattle.std.proofs.lemmas.List.{map-append}
 use Rattle.std.proofs.lemmas.List.Folds.{list_any-append}
 use Rattle.std.proofs.lemmas.List.Sums.{sum_by-append}
 use Rattle.std.proofs.lemmas.Option.{cond_some, get_or_from_slice_get, none-some, same_Some, slice_get-get_or, slice_get_within}
-use Rattle.aip_addr.specs.Ids.{id_of_router}
 use Rattle.aip_addr.specs.declared.ids.Id.{Id}
 use Rattle.aip_text.specs.Lines.{lines_of, is_skipped, has_carriage_return}
 use Rattle.aip_topo.specs.Canonical.{values_of}
 use Rattle.aip_topo.specs.Lines.{line_of}
 use Rattle.aip_topo.specs.Reading.{at_line, empty_draft, finished, is_long, is_seed, then_with, topology_of, with_lines, with_read, with_text}
 use Rattle.aip_topo.specs.Sound.{AreDistinct, IsDomain, IsInRange, IsPartOf, IsRouterOf, IsSound, has_text, host_key_ids, host_names, names_of}
-use Rattle.aip_topo.specs.Steps.{ad_at, domain_place, draft_with, entry_of, entry_or_fault, has_ad, has_eid, has_key_id, is_host, is_link, is_many, is_named, is_out_of_range, is_twice, is_twin, names_domain, names_host, names_router, router_place, with_entry, with_judged, with_line, with_setting}
+use Rattle.aip_topo.specs.Steps.{ad_at, domain_place, draft_with, entry_or_fault, has_key_id, is_host, is_link, is_named, is_out_of_range, is_twin, names_domain, names_host, names_router, router_place, with_entry, with_judged, with_line, with_setting}
 use Rattle.aip_topo.specs.declared.faults.TopoEnd.{TopoEnd}
 use Rattle.aip_topo.specs.declared.faults.TopoFault.{TopoFault}
 use Rattle.aip_topo.specs.declared.lines.Line.{Line}
@@ -97,13 +96,13 @@ found_meets draft (line.Host name router guarded eid) e fits met =
     let t = draft.topology in
     let place = mapped _ (router_place router t.routers) e met.found in
     meets_same t _ e place.2 met.ranged
-      (λ ranged. ((fits.0, fits.1, found_within (names_router router) t.routers place.0 place.1, ranged), (leb-false _ _ met.few, met.once)))
+    (λ ranged. ((fits.0, fits.1, found_within (names_router router) t.routers place.0 place.1, ranged), (leb-false _ _ met.few, met.once)))
 found_meets draft (line.Link a b a_trusts b_trusts) e fits met =
     let t = draft.topology in
     let first = chained _ (router_place a t.routers) e met.found in
     let second = mapped _ (router_place b t.routers) e first.2 in
     meets_same t _ e second.2 met.ranged
-      (λ ranged. ((found_within (names_router a) t.routers first.0 first.1, found_within (names_router b) t.routers second.0 second.1, ranged), leb-false _ _ met.few))
+    (λ ranged. ((found_within (names_router a) t.routers first.0 first.1, found_within (names_router b) t.routers second.0 second.1, ranged), leb-false _ _ met.few))
 found_meets draft line.Seed e fits met = absurd (none-some e met.found)
 
 -- ## One more
@@ -166,7 +165,7 @@ new_name name t h =
     let no_router : list_any test rs ≡ false = sym (any_map (λ (router : Router). router.name) name t.routers) ∙ rest.0 in
     let no_host : list_any test (host_names t.parts) ≡ false = sym (any_host_name name t.parts) ∙ rest.1 in
     let behind : list_any test (rs ++ host_names t.parts) ≡ false =
-      list_any-append test rs (host_names t.parts) ∙ or_from (list_any test rs) (list_any test (host_names t.parts)) no_router no_host in
+    list_any-append test rs (host_names t.parts) ∙ or_from (list_any test rs) (list_any test (host_names t.parts)) no_router no_host in
     list_any-append test ds (rs ++ host_names t.parts) ∙ or_from (list_any test ds) (list_any test (rs ++ host_names t.parts)) no_domain behind
 
 -- one more at the end of the first, the second and the third of three lists
@@ -197,9 +196,9 @@ ad_more place domains domain ad h =
     let below = slice_get_within domains place found.0 found.1 in
     let longer : place < length (domains ++ domain ∷ []) = omega (arith, length-append domains (domain ∷ []), below) in
     let same : get_or (domains ++ domain ∷ []) place found.0 ≡ found.0 =
-      get_or-append domains (domain ∷ []) found.0 place below ∙ get_or_from_slice_get domains place found.0 found.0 found.1 in
+    get_or-append domains (domain ∷ []) found.0 place below ∙ get_or_from_slice_get domains place found.0 found.0 found.1 in
     let there : slice_get (domains ++ domain ∷ []) place ≡ Some found.0 =
-      slice_get-get_or (domains ++ domain ∷ []) place found.0 longer ∙ ap Some same in
+    slice_get-get_or (domains ++ domain ∷ []) place found.0 longer ∙ ap Some same in
     ap (option_map (λ (d : Domain). d.ad)) there ∙ ap Some found.2
 
 router_stays : (domains : List Domain) (domain : Domain) (router : Router) → IsRouterOf domains router → IsRouterOf (domains ++ domain ∷ []) router

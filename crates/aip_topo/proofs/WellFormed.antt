@@ -101,9 +101,9 @@ unfolding domain_form
 domain_form_is name text l ok h =
     let form = gave (cut text) _ l h in
     either (IsLine l) (bytes_eq form.0.0 (codes "id")) _ _ _
-      (with_id form.0.1 (λ ad. line.Domain name ad) l (λ ad size. (ok, size)))
-      (either (IsLine l) (bytes_eq form.0.0 (codes "seed")) _ _ _ (domain_seed_is form.0.1 l) (nothing l))
-      form.2
+    (with_id form.0.1 (λ ad. line.Domain name ad) l (λ ad size. (ok, size)))
+    (either (IsLine l) (bytes_eq form.0.0 (codes "seed")) _ _ _ (domain_seed_is form.0.1 l) (nothing l))
+    form.2
 
 pub domain_is : (text : List ℕ) (l : Line) → domain_line text ≡ Some l → IsLine l
 unfolding domain_line
@@ -129,9 +129,9 @@ unfolding host_form
 host_form_is name router guarded text l ok h =
     let form = gave (cut text) _ l h in
     either (IsLine l) (bytes_eq form.0.0 (codes "id")) _ _ _
-      (with_id form.0.1 (λ eid. line.Host name router guarded eid) l (λ eid size. (ok, size)))
-      (either (IsLine l) (bytes_eq form.0.0 (codes "seed")) _ _ _ (host_seed_is form.0.1 l) (nothing l))
-      form.2
+    (with_id form.0.1 (λ eid. line.Host name router guarded eid) l (λ eid size. (ok, size)))
+    (either (IsLine l) (bytes_eq form.0.0 (codes "seed")) _ _ _ (host_seed_is form.0.1 l) (nothing l))
+    form.2
 
 pub host_is : (text : List ℕ) (l : Line) → host_line text ≡ Some l → IsLine l
 unfolding host_line
@@ -164,8 +164,8 @@ line_is text l h =
     let first = word.0.0 in
     let rest = word.0.1 in
     either (IsLine l) (bytes_eq first (codes "set")) _ _ _ (set_is rest l)
-      (either (IsLine l) (bytes_eq first (codes "domain")) _ _ _ (domain_is rest l)
-        (either (IsLine l) (bytes_eq first (codes "router")) _ _ _ (router_is rest l)
-          (either (IsLine l) (bytes_eq first (codes "host")) _ _ _ (host_is rest l)
-            (either (IsLine l) (bytes_eq first (codes "link")) _ _ _ (link_is rest l) (nothing l)))))
-      word.2
+    (either (IsLine l) (bytes_eq first (codes "domain")) _ _ _ (domain_is rest l)
+    (either (IsLine l) (bytes_eq first (codes "router")) _ _ _ (router_is rest l)
+    (either (IsLine l) (bytes_eq first (codes "host")) _ _ _ (host_is rest l)
+    (either (IsLine l) (bytes_eq first (codes "link")) _ _ _ (link_is rest l) (nothing l)))))
+    word.2

@@ -21,7 +21,7 @@ set_text s value = codes "set" ++ (32 ∷ (setting_word s ++ (32 ∷ (decimal va
 abbrev pub values_of : Settings → List (Setting × ℕ)
 values_of s =
     (setting.Accept, s.accept) ∷ (setting.Cache, s.cache) ∷ (setting.Epoch, s.epoch) ∷ (setting.Filter, s.filter)
-        ∷ (setting.Log, s.log) ∷ (setting.Threshold, s.threshold) ∷ (setting.Wild, s.wild) ∷ (setting.Wildcache, s.wildcache) ∷ []
+    ∷ (setting.Log, s.log) ∷ (setting.Threshold, s.threshold) ∷ (setting.Wild, s.wild) ∷ (setting.Wildcache, s.wildcache) ∷ []
 
 -- the line of a setting that stands with its value
 abbrev pub value_text : Setting × ℕ → List ℕ

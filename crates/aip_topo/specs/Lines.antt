@@ -1,5 +1,5 @@
 -- The lines of a topology's text, as words.
-use Rattle.std.specs.Prelude.{ℕ, ◌||◌, Bool, true, false, nat_lt, nat_le, List, codes, option_map, option_and_then, if◌then◌else◌, Option, Some, None}
+use Rattle.std.specs.Prelude.{ℕ, ◌||◌, Bool, true, false, List, codes, option_map, if◌then◌else◌, Option, Some, None}
 use Rattle.std.specs.Str.{bytes_eq}
 use Rattle.aip_addr.specs.Naming.{is_name}
 use Rattle.aip_addr.specs.declared.ids.Id.{Id}
@@ -92,7 +92,7 @@ unfoldable pub domain_form : List ℕ → List ℕ → Option Line
 domain_form name text = do
   form ← cut text
   if bytes_eq form.0 (codes "id") then option_map (λ ad. line.Domain name ad) (id_of form.1)
-    else if bytes_eq form.0 (codes "seed") then domain_seed form.1 else None
+      else if bytes_eq form.0 (codes "seed") then domain_seed form.1 else None
 
 -- behind `domain`: a name and its form
 unfoldable pub domain_line : List ℕ → Option Line
@@ -118,7 +118,7 @@ unfoldable pub host_form : List ℕ → List ℕ → Bool → List ℕ → Optio
 host_form name router guarded text = do
   form ← cut text
   if bytes_eq form.0 (codes "id") then option_map (λ eid. line.Host name router guarded eid) (id_of form.1)
-    else if bytes_eq form.0 (codes "seed") then host_seed form.1 else None
+      else if bytes_eq form.0 (codes "seed") then host_seed form.1 else None
 
 -- behind `host`: a name, a router's name, `guarded` or `plain`, and the form
 unfoldable pub host_line : List ℕ → Option Line
@@ -148,8 +148,8 @@ unfoldable pub line_of : List ℕ → Option Line
 line_of text = do
   word ← cut text
   if bytes_eq word.0 (codes "set") then set_line word.1
-    else if bytes_eq word.0 (codes "domain") then domain_line word.1
-    else if bytes_eq word.0 (codes "router") then router_line word.1
-    else if bytes_eq word.0 (codes "host") then host_line word.1
-    else if bytes_eq word.0 (codes "link") then link_line word.1
-    else None
+      else if bytes_eq word.0 (codes "domain") then domain_line word.1
+      else if bytes_eq word.0 (codes "router") then router_line word.1
+      else if bytes_eq word.0 (codes "host") then host_line word.1
+      else if bytes_eq word.0 (codes "link") then link_line word.1
+      else None

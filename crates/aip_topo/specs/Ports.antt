@@ -1,5 +1,5 @@
 -- The ports of routers: each host takes one of its router, each link one of each of its two routers, in their order.
-use Rattle.std.specs.Prelude.{ℕ, zero, suc, ◌+◌, ◌-◌, ◌==◌, ◌||◌, Bool, List, [], ◌∷◌, take, count_by, position, slice_get, option_map, option_and_then, if◌then◌else◌, Option, Some, None}
+use Rattle.std.specs.Prelude.{ℕ, zero, suc, ◌-◌, ◌==◌, ◌||◌, Bool, List, [], ◌∷◌, take, count_by, position, slice_get, option_map, option_and_then, if◌then◌else◌, Option, Some, None}
 use Rattle.aip_topo.specs.Steps.{is_link, names_host}
 use Rattle.aip_topo.specs.declared.topology.Part.{Part}
 use Rattle.aip_topo.specs.declared.topology.Part.TheVariants as part

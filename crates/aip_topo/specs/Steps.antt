@@ -1,5 +1,5 @@
 -- What a line may add to a topology, and the faults that keep it from it.
-use Rattle.std.specs.Prelude.{ℕ, ◌+◌, ◌-◌, ◌==◌, ◌&&◌, ◌||◌, Bool, true, false, not, nat_lt, nat_le, List, [], ◌∷◌, ◌++◌, length, take, count_by, position, slice_get, slice_set, slice_index, unwrap_or, option_map, option_and_then, if◌then◌else◌, Option, Some, None, Result, Ok, Err}
+use Rattle.std.specs.Prelude.{ℕ, ◌==◌, ◌||◌, Bool, true, false, not, nat_lt, nat_le, List, [], ◌∷◌, ◌++◌, length, take, count_by, position, slice_get, slice_set, slice_index, unwrap_or, option_map, option_and_then, if◌then◌else◌, Option, Some, None, Result, Ok, Err}
 use Rattle.std.specs.List.{list_any}
 use Rattle.std.specs.Str.{bytes_eq}
 use Rattle.aip_addr.specs.Ids.{id_of_router}

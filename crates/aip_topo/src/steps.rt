@@ -2,12 +2,10 @@ ghost use Rattle.std.specs.Prelude.{◌≡◌, ◌<◌, ◌≤◌, count_by, len
 ghost use Rattle.std.specs.List.{list_any};
 ghost use Rattle.aip_topo.specs.Steps.{most_of, with_setting, is_host, is_link, is_many, is_named, is_twice, was_set, names_domain, names_router, names_host, domain_place, router_place, ad_at, router_entry, host_entry, link_entry, entry_of, is_out_of_range, has_ad, has_eid, has_key_id, is_twin, judged, entry_or_fault, fits, draft_with};
 
+use crate::faults::TopoFault;
 use crate::lines::{Line, Setting};
 use crate::lists::{Domains, MOST_DOMAINS, MOST_HOSTS, MOST_LINKS, MOST_ROUTERS, Routers};
-use crate::topology::{
-    Domain, HostPart, Key, LinkPart, Part, Router, Settings, Topology,
-};
-use crate::faults::TopoFault;
+use crate::topology::{Domain, HostPart, Key, LinkPart, Part, Router, Settings, Topology};
 use aip_addr::{Address, Id, Memory, Name};
 
 /// What a line adds to a topology, once its names are looked up.
@@ -74,14 +72,38 @@ fn with_setting(settings: Settings, setting: Setting, value: u64) -> Settings
     ensures { result ≡ with_setting setting value settings }
 {
     match setting {
-        Setting::Accept => Settings { accept: value, ..settings },
-        Setting::Cache => Settings { cache: value as u16, ..settings },
-        Setting::Epoch => Settings { epoch: value, ..settings },
-        Setting::Filter => Settings { filter: value as u16, ..settings },
-        Setting::Log => Settings { log: value as u16, ..settings },
-        Setting::Threshold => Settings { threshold: value as u16, ..settings },
-        Setting::Wild => Settings { wild: value, ..settings },
-        Setting::Wildcache => Settings { wildcache: value as u16, ..settings },
+        Setting::Accept => Settings {
+            accept: value,
+            ..settings
+        },
+        Setting::Cache => Settings {
+            cache: value as u16,
+            ..settings
+        },
+        Setting::Epoch => Settings {
+            epoch: value,
+            ..settings
+        },
+        Setting::Filter => Settings {
+            filter: value as u16,
+            ..settings
+        },
+        Setting::Log => Settings {
+            log: value as u16,
+            ..settings
+        },
+        Setting::Threshold => Settings {
+            threshold: value as u16,
+            ..settings
+        },
+        Setting::Wild => Settings {
+            wild: value,
+            ..settings
+        },
+        Setting::Wildcache => Settings {
+            wildcache: value as u16,
+            ..settings
+        },
     }
 }
 

@@ -5,10 +5,12 @@ use std::alloc::Global;
 use std::test::Fail;
 
 /// A network of one domain, one router and two hosts.
-const SMALL: &[u8] = b"domain d id 0111111111111111111111111111111111111100\nrouter r d open 0000000000000000000000000000000000000000000000000000000000000000\nhost a r plain id 01aaaaaaaaaaaaaaaaaaaaaaaaaaaaaaaaaaaa00\nhost b r plain id 01bbbbbbbbbbbbbbbbbbbbbbbbbbbbbbbbbbbb00\n";
+const SMALL: &[u8] =
+    b"domain d id 0111111111111111111111111111111111111100\nrouter r d open 0000000000000000000000000000000000000000000000000000000000000000\nhost a r plain id 01aaaaaaaaaaaaaaaaaaaaaaaaaaaaaaaaaaaa00\nhost b r plain id 01bbbbbbbbbbbbbbbbbbbbbbbbbbbbbbbbbbbb00\n";
 
 /// Its canonical text.
-const SMALL_WHOLE: &[u8] = b"set accept 600\nset cache 64\nset epoch 60\nset filter 16\nset log 128\nset threshold 8\nset wild 600\nset wildcache 8\ndomain d id 0111111111111111111111111111111111111100\nrouter r d open 0000000000000000000000000000000000000000000000000000000000000000\nhost a r plain id 01aaaaaaaaaaaaaaaaaaaaaaaaaaaaaaaaaaaa00\nhost b r plain id 01bbbbbbbbbbbbbbbbbbbbbbbbbbbbbbbbbbbb00\n";
+const SMALL_WHOLE: &[u8] =
+    b"set accept 600\nset cache 64\nset epoch 60\nset filter 16\nset log 128\nset threshold 8\nset wild 600\nset wildcache 8\ndomain d id 0111111111111111111111111111111111111100\nrouter r d open 0000000000000000000000000000000000000000000000000000000000000000\nhost a r plain id 01aaaaaaaaaaaaaaaaaaaaaaaaaaaaaaaaaaaa00\nhost b r plain id 01bbbbbbbbbbbbbbbbbbbbbbbbbbbbbbbbbbbb00\n";
 
 fn refusal(alloc: Global, text: &[u8]) -> Option<(u32, u64)> {
     match read(alloc, text) {
@@ -48,29 +50,62 @@ fn an_empty_text_is_an_empty_network(rt: HostRuntime) -> Result<(), Fail> {
 fn lines_outside_the_grammar(rt: HostRuntime) -> Result<(), Fail> {
     assert_eq!(rt; refusal(rt.alloc(), b"set cash 1\n"), Some((1, 1)));
     // Skipped lines count.
-    assert_eq!(rt; refusal(rt.alloc(), b"\n# a comment\nset cache  1"), Some((3, 1)));
+    assert_eq!(rt;
+        refusal(rt.alloc(), b"\n# a comment\nset cache  1"),
+        Some((3, 1))
+    );
     // A carriage return in a skipped line.
     assert_eq!(rt; refusal(rt.alloc(), b"#\r\n"), Some((1, 1)));
-    assert_eq!(rt; refusal(rt.alloc(), b"domain d seed W3 H5 0000000000000000000000000000000000000000000000000000000000000000\n"), Some((1, 1)));
+    assert_eq!(rt;
+        refusal(
+            rt.alloc(),
+            b"domain d seed W3 H5 0000000000000000000000000000000000000000000000000000000000000000\n"
+        ),
+        Some((1, 1))
+    );
     Ok(())
 }
 
 #[test]
 fn names_and_settings_twice(rt: HostRuntime) -> Result<(), Fail> {
     // The value is out of range as well.
-    assert_eq!(rt; refusal(rt.alloc(), b"set cache 1\nset cache 0\n"), Some((2, 2)));
+    assert_eq!(rt;
+        refusal(rt.alloc(), b"set cache 1\nset cache 0\n"),
+        Some((2, 2))
+    );
     // The id is that of the first domain as well.
-    assert_eq!(rt; refusal(rt.alloc(), b"domain d id 0111111111111111111111111111111111111100\ndomain d id 0111111111111111111111111111111111111100\n"), Some((2, 2)));
+    assert_eq!(rt;
+        refusal(
+            rt.alloc(),
+            b"domain d id 0111111111111111111111111111111111111100\ndomain d id 0111111111111111111111111111111111111100\n"
+        ),
+        Some((2, 2))
+    );
     // No domain has the second name.
-    assert_eq!(rt; refusal(rt.alloc(), b"domain d id 0111111111111111111111111111111111111100\nrouter r d open 0000000000000000000000000000000000000000000000000000000000000000\nrouter r e open 0000000000000000000000000000000000000000000000000000000000000000\n"), Some((3, 2)));
+    assert_eq!(rt;
+        refusal(
+            rt.alloc(),
+            b"domain d id 0111111111111111111111111111111111111100\nrouter r d open 0000000000000000000000000000000000000000000000000000000000000000\nrouter r e open 0000000000000000000000000000000000000000000000000000000000000000\n"
+        ),
+        Some((3, 2))
+    );
     Ok(())
 }
 
 #[test]
 fn names_that_are_unknown(rt: HostRuntime) -> Result<(), Fail> {
-    assert_eq!(rt; refusal(rt.alloc(), b"domain d id 0111111111111111111111111111111111111100\nrouter r e open 0000000000000000000000000000000000000000000000000000000000000000\n"), Some((2, 3)));
+    assert_eq!(rt;
+        refusal(
+            rt.alloc(),
+            b"domain d id 0111111111111111111111111111111111111100\nrouter r e open 0000000000000000000000000000000000000000000000000000000000000000\n"
+        ),
+        Some((2, 3))
+    );
     // It would be a link from a router to itself as well.
-    assert_eq!(rt; refusal(rt.alloc(), b"link x x trusted checked\n"), Some((1, 3)));
+    assert_eq!(rt;
+        refusal(rt.alloc(), b"link x x trusted checked\n"),
+        Some((1, 3))
+    );
     Ok(())
 }
 
@@ -78,17 +113,47 @@ fn names_that_are_unknown(rt: HostRuntime) -> Result<(), Fail> {
 fn values_out_of_range(rt: HostRuntime) -> Result<(), Fail> {
     assert_eq!(rt; refusal(rt.alloc(), b"set filter 257\n"), Some((1, 4)));
     assert_eq!(rt; refusal(rt.alloc(), b"set wild 4294967296\n"), Some((1, 4)));
-    assert_eq!(rt; refusal(rt.alloc(), b"domain d id 0011111111111111111111111111111111111100\n"), Some((1, 4)));
-    assert_eq!(rt; refusal(rt.alloc(), b"domain d id 0111111111111111111111111111111111111101\n"), Some((1, 4)));
-    assert_eq!(rt; refusal(rt.alloc(), b"domain d id 0111111111111111111111111111111111111100\nrouter r d open 0000000000000000000000000000000000000000000000000000000000000000\nlink r r trusted checked\n"), Some((3, 4)));
+    assert_eq!(rt;
+        refusal(
+            rt.alloc(),
+            b"domain d id 0011111111111111111111111111111111111100\n"
+        ),
+        Some((1, 4))
+    );
+    assert_eq!(rt;
+        refusal(
+            rt.alloc(),
+            b"domain d id 0111111111111111111111111111111111111101\n"
+        ),
+        Some((1, 4))
+    );
+    assert_eq!(rt;
+        refusal(
+            rt.alloc(),
+            b"domain d id 0111111111111111111111111111111111111100\nrouter r d open 0000000000000000000000000000000000000000000000000000000000000000\nlink r r trusted checked\n"
+        ),
+        Some((3, 4))
+    );
     Ok(())
 }
 
 #[test]
 fn ids_of_others(rt: HostRuntime) -> Result<(), Fail> {
-    assert_eq!(rt; refusal(rt.alloc(), b"domain d id 0111111111111111111111111111111111111100\ndomain e id 0111111111111111111111111111111111111100\n"), Some((2, 5)));
+    assert_eq!(rt;
+        refusal(
+            rt.alloc(),
+            b"domain d id 0111111111111111111111111111111111111100\ndomain e id 0111111111111111111111111111111111111100\n"
+        ),
+        Some((2, 5))
+    );
     // Another interface of the same key.
-    assert_eq!(rt; refusal(rt.alloc(), b"domain d id 0111111111111111111111111111111111111100\nrouter r d open 0000000000000000000000000000000000000000000000000000000000000000\nhost a r plain id 01aaaaaaaaaaaaaaaaaaaaaaaaaaaaaaaaaaaa00\nhost c r guarded id 01aaaaaaaaaaaaaaaaaaaaaaaaaaaaaaaaaaaa07\n"), Some((4, 5)));
+    assert_eq!(rt;
+        refusal(
+            rt.alloc(),
+            b"domain d id 0111111111111111111111111111111111111100\nrouter r d open 0000000000000000000000000000000000000000000000000000000000000000\nhost a r plain id 01aaaaaaaaaaaaaaaaaaaaaaaaaaaaaaaaaaaa00\nhost c r guarded id 01aaaaaaaaaaaaaaaaaaaaaaaaaaaaaaaaaaaa07\n"
+        ),
+        Some((4, 5))
+    );
     Ok(())
 }
 
@@ -111,7 +176,11 @@ fn too_many_domains(rt: HostRuntime) -> Result<(), Fail> {
     let whole = domains_and(rt.alloc(), 64, b"")?;
     assert_eq!(rt; read(rt.alloc(), &whole)?.domains.as_slice().len(), 64);
     // The name and the id are those of the first domain as well.
-    let more = domains_and(rt.alloc(), 64, b"domain d0 id 0100000000000000000000000000000000000000\n")?;
+    let more = domains_and(
+        rt.alloc(),
+        64,
+        b"domain d0 id 0100000000000000000000000000000000000000\n",
+    )?;
     assert_eq!(rt; refusal(rt.alloc(), &more), Some((65, 6)));
     let more = domains_and(rt.alloc(), 65, b"")?;
     assert_eq!(rt; refusal(rt.alloc(), &more), Some((65, 6)));
@@ -132,7 +201,18 @@ fn lines_that_are_too_long(rt: HostRuntime) -> Result<(), Fail> {
 
 #[test]
 fn keys_from_seeds_are_not_built(rt: HostRuntime) -> Result<(), Fail> {
-    assert!(rt; is_unbuilt(rt.alloc(), b"domain d seed W4 H5 0000000000000000000000000000000000000000000000000000000000000000\nset cache 0\n"));
-    assert_eq!(rt; refusal(rt.alloc(), b"set cache 0\ndomain d seed W4 H5 0000000000000000000000000000000000000000000000000000000000000000\n"), Some((1, 4)));
+    assert!(rt;
+        is_unbuilt(
+            rt.alloc(),
+            b"domain d seed W4 H5 0000000000000000000000000000000000000000000000000000000000000000\nset cache 0\n"
+        )
+    );
+    assert_eq!(rt;
+        refusal(
+            rt.alloc(),
+            b"set cache 0\ndomain d seed W4 H5 0000000000000000000000000000000000000000000000000000000000000000\n"
+        ),
+        Some((1, 4))
+    );
     Ok(())
 }
