@@ -107,3 +107,7 @@ digit_step ds i n all inside value small =
     let more = digits_value_more 10 ds i inside in
     let same = digit_value_is (get_or ds i 0) (digit_among ds i all inside) in
     (rw (more, same, ← value) (omega arith), omega (arith, grown, digit.1))
+
+-- a number's word is digits
+pub list_all-decimal : (n : ℕ) → n < 10 ^ 15 → list_all is_digit (decimal n) ≡ true
+list_all-decimal n small = digits_decimal own n (omega (arith, small))

@@ -1,0 +1,4 @@
+pub mod LineForms
+pub mod FieldLaws
+pub mod InputLaws
+pub mod EventLaws

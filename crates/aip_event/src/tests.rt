@@ -1,0 +1,97 @@
+use super::*;
+use std::alloc::Global;
+use std::test::Fail;
+
+fn rewritten_input(alloc: Global, line: &[u8]) -> Result<Vec<u8>, Fail> {
+    let input = read_input(alloc, line)?.ok_or("an input")?;
+    let mut out = Vec::new(alloc);
+    write_input(alloc, &input, &mut out)?;
+    Ok(out)
+}
+
+fn rewritten_event(alloc: Global, line: &[u8]) -> Result<Vec<u8>, Fail> {
+    let event = read_event(alloc, line)?.ok_or("an event")?;
+    let mut out = Vec::new(alloc);
+    write_event(alloc, &event, &mut out)?;
+    Ok(out)
+}
+
+#[test]
+fn lines_of_inputs_are_read_and_written(rt: HostRuntime) -> Result<(), Fail> {
+    let lines = [
+        b"tick 119".as_slice(),
+        b"send a b 1 00",
+        b"send a r 7 -",
+        b"raw a 00",
+        b"deliver 0",
+        b"inject r/0 0102",
+        b"inject b 01",
+        b"cut 0",
+        b"mend 0",
+        b"shutoff b 0 10",
+        b"restart a",
+        b"stop a 1 0",
+    ];
+    for line in lines {
+        assert_eq!(rt; rewritten_input(rt.alloc(), line)?.as_slice(), line);
+    }
+    Ok(())
+}
+
+#[test]
+fn lines_of_events_are_read_and_written(rt: HostRuntime) -> Result<(), Fail> {
+    let lines = [
+        b"put 0 r/0 00".as_slice(),
+        b"forward r 0 1 open",
+        b"ask r 1 1",
+        b"proved r 0111111111111111111111111111111111111100:0137b38dc49cf7d3e150075d96e2b71816274900 2",
+        b"wild r2 0111111111111111111111111111111111111100 1",
+        b"refuse r 3",
+        b"drop a notmine",
+        b"got b 1",
+        b"signed a 0",
+        b"stopped a 0 1 0",
+        b"withheld a 0180326aee4627a680a82b2e03b54a1277d7ee",
+        b"obeyed a 0137b38dc49cf7d3e150075d96e2b718162749 15",
+        b"heard a 1",
+    ];
+    for line in lines {
+        assert_eq!(rt; rewritten_event(rt.alloc(), line)?.as_slice(), line);
+    }
+    Ok(())
+}
+
+#[test]
+fn other_lines_are_refused(rt: HostRuntime) -> Result<(), Fail> {
+    let lines = [
+        b"".as_slice(),
+        b"tick",
+        b"tick ",
+        b"tick 01",
+        b"tick  1",
+        b"tick 1 ",
+        b"tick 1\r",
+        b"tick 1000000000000000",
+        b"raw a 0A",
+        b"raw a 000",
+        b"raw abcdefghijklmnopq 00",
+        b"raw A 00",
+        b"inject r/01 00",
+        b"inject r/ 00",
+        b"halt a 3 0",
+    ];
+    for line in lines {
+        assert!(rt; read_input(rt.alloc(), line)?.is_none());
+        assert!(rt; read_event(rt.alloc(), line)?.is_none());
+    }
+    Ok(())
+}
+
+#[test]
+fn events_are_kept_in_order(rt: HostRuntime) -> Result<(), Fail> {
+    let mut events = Events::new(rt.alloc());
+    events.push(read_event(rt.alloc(), b"got b 1")?.ok_or("an event")?)?;
+    events.push(read_event(rt.alloc(), b"heard a 1")?.ok_or("an event")?)?;
+    assert_eq!(rt; events.as_slice().len(), 2);
+    Ok(())
+}
