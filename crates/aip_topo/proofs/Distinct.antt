@@ -8,7 +8,7 @@ use Rattle.std.proofs.lemmas.Slice.Eq.{bytes_eq-Decides}
 use Rattle.aip_topo.specs.Sound.{AreDistinct, has_text}
 
 -- two texts are the same whichever comes first
-other_way : (x y : List ℕ) → bytes_eq x y ≡ false → bytes_eq y x ≡ false
+pub other_way : (x y : List ℕ) → bytes_eq x y ≡ false → bytes_eq y x ≡ false
 other_way x y h =
     let to = (bytes_eq-Decides y x).0 in
     let back = (bytes_eq-Decides x y).1 in

@@ -64,7 +64,7 @@ found_within p xs k h =
     subst (λ n. n < length xs) e.1 below
 
 -- one is mapped to what was given
-mapped : {A B : Type 0} (f : A → B) (o : Option A) (y : B) → option_map f o ≡ Some y → (x : A) × (o ≡ Some x) × (f x ≡ y)
+pub mapped : {A B : Type 0} (f : A → B) (o : Option A) (y : B) → option_map f o ≡ Some y → (x : A) × (o ≡ Some x) × (f x ≡ y)
 mapped f None y h = absurd (none-some y h)
 mapped f (Some x) y h = (x, refl, same_Some (f x) y h)
 
@@ -119,16 +119,16 @@ set_keeps setting.Wild value t h k = (k.0, (k.1.0, (k.1.1.0, (k.1.1.1.0, (k.1.1.
 set_keeps setting.Wildcache value t h k = (k.0, (k.1.0, (k.1.1.0, (k.1.1.1.0, (k.1.1.1.1.0, (k.1.1.1.1.1.0, (k.1.1.1.1.1.1.0, (h, tt))))))))
 
 -- a text of some field of each
-any_map : {A : Type 0} (f : A → List ℕ) (x : List ℕ) (xs : List A) → list_any (λ a. bytes_eq (f a) x) xs ≡ has_text x (map f xs)
+pub any_map : {A : Type 0} (f : A → List ℕ) (x : List ℕ) (xs : List A) → list_any (λ a. bytes_eq (f a) x) xs ≡ has_text x (map f xs)
 any_map f x [] = refl
 any_map f x (a ∷ xs) = ap (λ b. bytes_eq (f a) x || b) (any_map f x xs)
 
-any_host_name : (name : List ℕ) (parts : List Part) → list_any (names_host name) parts ≡ has_text name (host_names parts)
+pub any_host_name : (name : List ℕ) (parts : List Part) → list_any (names_host name) parts ≡ has_text name (host_names parts)
 any_host_name name [] = refl
 any_host_name name (part.Host host ∷ parts) = ap (λ b. bytes_eq host.name name || b) (any_host_name name parts)
 any_host_name name (part.Link _ ∷ parts) = any_host_name name parts
 
-any_key_id : (eid : Id) (parts : List Part) → list_any (has_key_id eid) parts ≡ has_text (take 19 eid.bytes) (host_key_ids parts)
+pub any_key_id : (eid : Id) (parts : List Part) → list_any (has_key_id eid) parts ≡ has_text (take 19 eid.bytes) (host_key_ids parts)
 any_key_id eid [] = refl
 any_key_id eid (part.Host host ∷ parts) = ap (λ b. bytes_eq (take 19 host.eid.bytes) (take 19 eid.bytes) || b) (any_key_id eid parts)
 any_key_id eid (part.Link _ ∷ parts) = any_key_id eid parts

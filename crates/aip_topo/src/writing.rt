@@ -2,6 +2,8 @@ ghost use Rattle.std.specs.Prelude.{◌≡◌, ◌++◌, ◌∷◌, [], IfOk, On
 ghost use Rattle.hex.specs.Hex.{encode_lower};
 ghost use Rattle.aip_topo.specs.Canonical.{canonical_text, domain_name, domain_text, guard_word, hex_end, host_text, kind_word, link_text, part_text, router_name, router_text, set_text, settings_text, trust_word, value_text, values_of, words};
 ghost use Rattle.aip_topo.specs.Lines.{setting_word};
+ghost use Rattle.aip_topo.specs.Reading.{topology_of};
+ghost use Rattle.aip_topo.specs.Sound.{IsSound};
 
 use crate::lines::Setting;
 use crate::topology::{Domain, HostPart, LinkPart, Part, Router, Settings, Topology};
@@ -10,8 +12,16 @@ use aip_text::{push_hex, push_number, push_space, push_text, push_word};
 use std::alloc::Global;
 
 /// The canonical text of the topology: the eight settings, the domains, the routers, then the hosts
-/// and links in their order. The only error is want of memory.
+/// and links in their order. The text of a sound topology, as `read` gives them, is read as that
+/// topology. The only error is want of memory.
 pub fn write(alloc: Global, topology: &Topology) -> Result<Bytes, Memory>
+    ensures spelling { IfOk result (λ text. text ≡ canonical_text topology.now) }
+    ensures read_back { IfOk result (λ text. IsSound topology.now → topology_of text ≡ Ok topology.now) }
+{
+    write_exactly(alloc, topology)
+}
+
+fn write_exactly(alloc: Global, topology: &Topology) -> Result<Bytes, Memory>
     ensures { IfOk result (λ text. text ≡ canonical_text topology.now) }
 {
     let mut out = Vec::new(alloc);
