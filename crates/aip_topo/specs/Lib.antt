@@ -1,0 +1,7 @@
+pub mod Faults
+pub mod Steps
+pub mod Lines
+pub mod Reading
+pub mod Ports
+pub mod Canonical
+pub mod Sound

@@ -1,0 +1,155 @@
+-- The lines of a topology's text, as words.
+use Rattle.std.specs.Prelude.{ℕ, ◌||◌, Bool, true, false, List, codes, option_map, if◌then◌else◌, Option, Some, None}
+use Rattle.std.specs.Str.{bytes_eq}
+use Rattle.aip_addr.specs.Naming.{is_name}
+use Rattle.aip_addr.specs.declared.ids.Id.{Id}
+use Rattle.aip_text.specs.Words.{number_of, hex_sized, cut}
+use Rattle.aip_topo.specs.declared.lines.Line.{Line}
+use Rattle.aip_topo.specs.declared.lines.Line.TheVariants as line
+use Rattle.aip_topo.specs.declared.lines.Setting.{Setting}
+use Rattle.aip_topo.specs.declared.lines.Setting.TheVariants as setting
+
+infixl 10 ◌>>=◌
+-- with what was read, if anything was
+abbrev pub ◌>>=◌ : {A B : Type 0} → Option A → (A → Option B) → Option B
+None >>= f = None
+(Some x) >>= f = f x
+
+-- the word of a setting
+abbrev pub setting_word : Setting → List ℕ
+setting_word setting.Accept = codes "accept"
+setting_word setting.Cache = codes "cache"
+setting_word setting.Epoch = codes "epoch"
+setting_word setting.Filter = codes "filter"
+setting_word setting.Log = codes "log"
+setting_word setting.Threshold = codes "threshold"
+setting_word setting.Wild = codes "wild"
+setting_word setting.Wildcache = codes "wildcache"
+
+-- the setting that a word is of
+abbrev pub setting_of : List ℕ → Option Setting
+setting_of word =
+    if bytes_eq word (codes "accept") then Some setting.Accept
+    else if bytes_eq word (codes "cache") then Some setting.Cache
+    else if bytes_eq word (codes "epoch") then Some setting.Epoch
+    else if bytes_eq word (codes "filter") then Some setting.Filter
+    else if bytes_eq word (codes "log") then Some setting.Log
+    else if bytes_eq word (codes "threshold") then Some setting.Threshold
+    else if bytes_eq word (codes "wild") then Some setting.Wild
+    else if bytes_eq word (codes "wildcache") then Some setting.Wildcache
+    else None
+
+-- the name that a word is
+abbrev pub name_of : List ℕ → Option (List ℕ)
+name_of word = if is_name word then Some word else None
+
+-- the id that 40 digits of hex are
+abbrev pub id_of : List ℕ → Option Id
+id_of word = option_map (λ bytes. record { bytes = bytes }) (hex_sized 20 word)
+
+-- which of two words it is: true for the first, false for the second
+abbrev pub choice_of : List ℕ → List ℕ → List ℕ → Option Bool
+choice_of word first second =
+    if bytes_eq word first then Some true else if bytes_eq word second then Some false else None
+
+-- behind `set`: a setting's word and a number
+unfoldable pub set_line : List ℕ → Option Line
+set_line text = do
+  word ← cut text
+  setting ← setting_of word.0
+  value ← number_of word.1
+  Some (line.Set setting value)
+
+-- a word of the width of a key: W1, W2, W4 or W8
+abbrev pub is_width : List ℕ → Bool
+is_width word =
+    bytes_eq word (codes "W1") || (bytes_eq word (codes "W2") || (bytes_eq word (codes "W4") || bytes_eq word (codes "W8")))
+
+-- a word of the height of a key: H5 or H10
+abbrev pub is_height : List ℕ → Bool
+is_height word = bytes_eq word (codes "H5") || bytes_eq word (codes "H10")
+
+-- behind `seed` in a domain's line: a width, a height and the 64 digits of a seed
+unfoldable pub domain_seed : List ℕ → Option Line
+domain_seed text = do
+  width ← cut text
+  height ← cut width.1
+  seed ← hex_sized 32 height.1
+  if is_width width.0 then (if is_height height.0 then Some line.Seed else None) else None
+
+-- behind `seed` in a host's line: a width, a height, a number and the 64 digits of a seed
+unfoldable pub host_seed : List ℕ → Option Line
+host_seed text = do
+  width ← cut text
+  height ← cut width.1
+  interface ← cut height.1
+  number ← number_of interface.0
+  seed ← hex_sized 32 interface.1
+  if is_width width.0 then (if is_height height.0 then Some line.Seed else None) else None
+
+-- behind a domain's name: `id` and an id, or `seed` and a key
+unfoldable pub domain_form : List ℕ → List ℕ → Option Line
+domain_form name text = do
+  form ← cut text
+  if bytes_eq form.0 (codes "id") then option_map (λ ad. line.Domain name ad) (id_of form.1)
+      else if bytes_eq form.0 (codes "seed") then domain_seed form.1 else None
+
+-- behind `domain`: a name and its form
+unfoldable pub domain_line : List ℕ → Option Line
+domain_line text = do
+  word ← cut text
+  name ← name_of word.0
+  domain_form name word.1
+
+-- behind `router`: a name, a domain's name, `checking` or `open`, and the 64 digits of a master secret
+unfoldable pub router_line : List ℕ → Option Line
+router_line text = do
+  word ← cut text
+  name ← name_of word.0
+  next ← cut word.1
+  domain ← name_of next.0
+  kind ← cut next.1
+  checking ← choice_of kind.0 (codes "checking") (codes "open")
+  master ← hex_sized 32 kind.1
+  Some (line.Router name domain checking master)
+
+-- behind a host's guard: `id` and an id, or `seed` and a key
+unfoldable pub host_form : List ℕ → List ℕ → Bool → List ℕ → Option Line
+host_form name router guarded text = do
+  form ← cut text
+  if bytes_eq form.0 (codes "id") then option_map (λ eid. line.Host name router guarded eid) (id_of form.1)
+      else if bytes_eq form.0 (codes "seed") then host_seed form.1 else None
+
+-- behind `host`: a name, a router's name, `guarded` or `plain`, and the form
+unfoldable pub host_line : List ℕ → Option Line
+host_line text = do
+  word ← cut text
+  name ← name_of word.0
+  next ← cut word.1
+  router ← name_of next.0
+  guard ← cut next.1
+  guarded ← choice_of guard.0 (codes "guarded") (codes "plain")
+  host_form name router guarded guard.1
+
+-- behind `link`: two routers' names, and `trusted` or `checked` for each
+unfoldable pub link_line : List ℕ → Option Line
+link_line text = do
+  word ← cut text
+  a ← name_of word.0
+  next ← cut word.1
+  b ← name_of next.0
+  ends ← cut next.1
+  a_trusts ← choice_of ends.0 (codes "trusted") (codes "checked")
+  b_trusts ← choice_of ends.1 (codes "trusted") (codes "checked")
+  Some (line.Link a b a_trusts b_trusts)
+
+-- what a line of the text says, by its first word, and nothing where it is no line of a topology
+unfoldable pub line_of : List ℕ → Option Line
+line_of text = do
+  word ← cut text
+  if bytes_eq word.0 (codes "set") then set_line word.1
+      else if bytes_eq word.0 (codes "domain") then domain_line word.1
+      else if bytes_eq word.0 (codes "router") then router_line word.1
+      else if bytes_eq word.0 (codes "host") then host_line word.1
+      else if bytes_eq word.0 (codes "link") then link_line word.1
+      else None

@@ -1,0 +1,81 @@
+-- The topology that a text gives, or the first line that is refused, with its first fault.
+use Rattle.std.specs.Prelude.{◌≡◌, ℕ, ◌+◌, ◌||◌, min, nat_lt, Bool, true, false, List, [], ◌∷◌, length, replicate, if◌then◌else◌, Option, Some, None, Result, Ok, Err}
+use Rattle.aip_text.specs.Lines.{lines_of, is_skipped, has_carriage_return}
+use Rattle.aip_topo.specs.Lines.{line_of}
+use Rattle.aip_topo.specs.Steps.{with_line}
+use Rattle.aip_topo.specs.declared.faults.TopoFault.{TopoFault}
+use Rattle.aip_topo.specs.declared.faults.TopoFault.TheVariants as fault
+use Rattle.aip_topo.specs.declared.faults.TopoEnd.{TopoEnd}
+use Rattle.aip_topo.specs.declared.faults.TopoEnd.TheVariants as end
+use Rattle.aip_topo.specs.declared.lines.Line.{Line}
+use Rattle.aip_topo.specs.declared.lines.Line.TheVariants as line
+use Rattle.aip_topo.specs.declared.steps.Draft.{Draft}
+use Rattle.aip_topo.specs.declared.topology.Settings.{Settings}
+use Rattle.aip_topo.specs.declared.topology.Topology.{Topology}
+
+-- the settings where none is set
+abbrev pub default_settings : Settings
+default_settings =
+    record { accept = 600; cache = 64; epoch = 60; filter = 16; log = 128; threshold = 8; wild = 600; wildcache = 8 }
+
+-- no line taken yet: the default settings, and nothing else
+abbrev pub empty_draft : Draft
+empty_draft =
+    record { topology = record { settings = default_settings; domains = []; routers = []; parts = [] }; given = replicate 8 false }
+
+-- a line has more than 20,000 bytes, or it or its line feed ends past the first 1,048,576 bytes of the text
+abbrev pub is_long : ℕ → List ℕ → Bool
+is_long ending text = nat_lt 20000 (length text) || nat_lt 1048576 ending
+
+-- a fault of the line of this number
+abbrev pub at_line : ℕ → Result Draft TopoFault → Result Draft TopoEnd
+at_line number (Ok draft) = Ok draft
+at_line number (Err f) = Err (end.Line number f)
+
+-- a domain or a host by the seed of its key
+abbrev pub is_seed : Line → Bool
+is_seed (line.Set _ _) = false
+is_seed (line.Domain _ _) = false
+is_seed (line.Router _ _ _ _) = false
+is_seed (line.Host _ _ _ _) = false
+is_seed (line.Link _ _ _ _) = false
+is_seed line.Seed = true
+
+-- the draft with what a line says: Form where it says nothing, and no keys are made of seeds yet
+abbrev pub with_read : ℕ → Draft → Option Line → Result Draft TopoEnd
+with_read number draft None = Err (end.Line number fault.Form)
+with_read number draft (Some l) = if is_seed l then Err end.Unbuilt else at_line number (with_line draft l)
+
+-- the draft with a line of the text, which ends at this place: Long first, then Form for a carriage return; an empty line and one that begins with # are skipped
+abbrev pub with_text : ℕ → ℕ → Draft → List ℕ → Result Draft TopoEnd
+with_text number ending draft text =
+    if is_long ending text then Err (end.Line number fault.Long)
+    else if has_carriage_return text then Err (end.Line number fault.Form)
+    else if is_skipped text then Ok draft
+    else with_read number draft (line_of text)
+
+-- with a draft, if there is one
+abbrev pub then_with : Result Draft TopoEnd → (Draft → Result Draft TopoEnd) → Result Draft TopoEnd
+then_with (Ok draft) next = next draft
+then_with (Err e) next = Err e
+
+-- the draft with these lines of a text of so many bytes, the first of them of this number and at this place: each ends behind its line feed, the last where the text ends
+abbrev pub with_lines : ℕ → ℕ → ℕ → Draft → List (List ℕ) → Result Draft TopoEnd
+with_lines total number start draft [] = Ok draft
+with_lines total number start draft (text ∷ texts) =
+    then_with (with_text number (min (start + length text + 1) total) draft text) (λ next. with_lines total (number + 1) (start + length text + 1) next texts)
+
+-- the topology of a draft
+abbrev pub finished : Result Draft TopoEnd → Result Topology TopoEnd
+finished (Ok draft) = Ok draft.topology
+finished (Err e) = Err e
+
+-- the topology that the text gives, or why it gives none
+abbrev pub topology_of : List ℕ → Result Topology TopoEnd
+topology_of text = finished (with_lines (length text) 1 0 empty_draft (lines_of text))
+
+-- this end is the one that is told, unless memory ran out
+abbrev pub Tells : {A : Type 0} → TopoEnd → Result A TopoEnd → Type 0
+Tells (end.Line number f) told = told ≡ Err (end.Line number f)
+Tells end.Unbuilt told = told ≡ Err end.Unbuilt
+Tells end.Memory told = Unit {0}

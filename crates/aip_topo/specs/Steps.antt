@@ -1,0 +1,216 @@
+-- What a line may add to a topology, and the faults that keep it from it.
+use Rattle.std.specs.Prelude.{ℕ, ◌==◌, ◌||◌, Bool, true, false, not, nat_lt, nat_le, List, [], ◌∷◌, ◌++◌, length, take, count_by, position, slice_get, slice_set, slice_index, unwrap_or, option_map, option_and_then, if◌then◌else◌, Option, Some, None, Result, Ok, Err}
+use Rattle.std.specs.List.{list_any}
+use Rattle.std.specs.Str.{bytes_eq}
+use Rattle.aip_addr.specs.Ids.{id_of_router}
+use Rattle.aip_addr.specs.declared.ids.Id.{Id}
+use Rattle.aip_topo.specs.declared.faults.TopoFault.{TopoFault}
+use Rattle.aip_topo.specs.declared.faults.TopoFault.TheVariants as fault
+use Rattle.aip_topo.specs.declared.lines.Line.{Line}
+use Rattle.aip_topo.specs.declared.lines.Line.TheVariants as line
+use Rattle.aip_topo.specs.declared.lines.Setting.{Setting}
+use Rattle.aip_topo.specs.declared.lines.Setting.TheVariants as setting
+use Rattle.aip_topo.specs.declared.steps.Entry.{Entry}
+use Rattle.aip_topo.specs.declared.steps.Entry.TheVariants as entry
+use Rattle.aip_topo.specs.declared.steps.Draft.{Draft}
+use Rattle.aip_topo.specs.declared.topology.Settings.{Settings}
+use Rattle.aip_topo.specs.declared.topology.Domain.{Domain}
+use Rattle.aip_topo.specs.declared.topology.Router.{Router}
+use Rattle.aip_topo.specs.declared.topology.Part.{Part}
+use Rattle.aip_topo.specs.declared.topology.Part.TheVariants as part
+use Rattle.aip_topo.specs.declared.topology.Key.TheVariants as key
+use Rattle.aip_topo.specs.declared.topology.Topology.{Topology}
+
+-- the settings' places in their table
+abbrev pub place_of : Setting → ℕ
+place_of setting.Accept = 0
+place_of setting.Cache = 1
+place_of setting.Epoch = 2
+place_of setting.Filter = 3
+place_of setting.Log = 4
+place_of setting.Threshold = 5
+place_of setting.Wild = 6
+place_of setting.Wildcache = 7
+
+-- the greatest value of each setting; the least is 1
+abbrev pub most_of : Setting → ℕ
+most_of setting.Accept = 4294967295
+most_of setting.Cache = 4096
+most_of setting.Epoch = 4294967295
+most_of setting.Filter = 256
+most_of setting.Log = 4096
+most_of setting.Threshold = 4096
+most_of setting.Wild = 4294967295
+most_of setting.Wildcache = 4096
+
+-- the settings with this one at this value
+abbrev pub with_setting : Setting → ℕ → Settings → Settings
+with_setting setting.Accept value s = record s { accept = value }
+with_setting setting.Cache value s = record s { cache = value }
+with_setting setting.Epoch value s = record s { epoch = value }
+with_setting setting.Filter value s = record s { filter = value }
+with_setting setting.Log value s = record s { log = value }
+with_setting setting.Threshold value s = record s { threshold = value }
+with_setting setting.Wild value s = record s { wild = value }
+with_setting setting.Wildcache value s = record s { wildcache = value }
+
+-- a host, and not a link
+abbrev pub is_host : Part → Bool
+is_host (part.Host _) = true
+is_host (part.Link _) = false
+
+-- a link, and not a host
+abbrev pub is_link : Part → Bool
+is_link (part.Host _) = false
+is_link (part.Link _) = true
+
+-- there are already 64 domains, 256 routers, 1024 hosts or 4096 links, of the line's kind
+abbrev pub is_many : Topology → Line → Bool
+is_many t (line.Set _ _) = false
+is_many t (line.Domain _ _) = nat_le 64 (length t.domains)
+is_many t (line.Router _ _ _ _) = nat_le 256 (length t.routers)
+is_many t (line.Host _ _ _ _) = nat_le 1024 (count_by is_host t.parts)
+is_many t (line.Link _ _ _ _) = nat_le 4096 (count_by is_link t.parts)
+is_many t line.Seed = false
+
+-- the domain has this name
+abbrev pub names_domain : List ℕ → Domain → Bool
+names_domain name domain = bytes_eq domain.name name
+
+-- the router has this name
+abbrev pub names_router : List ℕ → Router → Bool
+names_router name router = bytes_eq router.name name
+
+-- it is a host of this name
+abbrev pub names_host : List ℕ → Part → Bool
+names_host name (part.Host host) = bytes_eq host.name name
+names_host name (part.Link _) = false
+
+-- the name is that of a domain, a router or a host
+abbrev pub is_named : List ℕ → Topology → Bool
+is_named name t =
+    list_any (names_domain name) t.domains || (list_any (names_router name) t.routers || list_any (names_host name) t.parts)
+
+-- the setting was set before
+abbrev pub was_set : Setting → Draft → Bool
+was_set s draft = unwrap_or (slice_get draft.given (place_of s)) false
+
+-- the name is already that of a domain, a router or a host, or the setting was set before
+abbrev pub is_twice : Draft → Line → Bool
+is_twice draft (line.Set s _) = was_set s draft
+is_twice draft (line.Domain name _) = is_named name draft.topology
+is_twice draft (line.Router name _ _ _) = is_named name draft.topology
+is_twice draft (line.Host name _ _ _) = is_named name draft.topology
+is_twice draft (line.Link _ _ _ _) = false
+is_twice draft line.Seed = false
+
+-- the place of the domain that has this name
+abbrev pub domain_place : List ℕ → List Domain → Option ℕ
+domain_place name domains = position (names_domain name) domains
+
+-- the place of the router that has this name
+abbrev pub router_place : List ℕ → List Router → Option ℕ
+router_place name routers = position (names_router name) routers
+
+-- the id of the domain at a place
+abbrev pub ad_at : ℕ → List Domain → Option Id
+ad_at place domains = option_map (λ domain. domain.ad) (slice_get domains place)
+
+-- a router of this name in the domain of that name, and nothing where there is no such domain
+abbrev pub router_entry : Topology → List ℕ → List ℕ → Bool → List ℕ → Option Entry
+router_entry t name domain checking master =
+    option_and_then (λ place. option_map (λ ad. entry.Router (record { name = name; domain = place; checking = checking; master = master; address = record { ad = ad; eid = id_of_router name } })) (ad_at place t.domains)) (domain_place domain t.domains)
+
+-- a host of this name at the router of that name, and nothing where there is no such router
+abbrev pub host_entry : Topology → List ℕ → List ℕ → Bool → Id → Option Entry
+host_entry t name router guarded eid =
+    option_map (λ place. entry.Part (part.Host (record { name = name; router = place; guarded = guarded; eid = eid; key = key.Given }))) (router_place router t.routers)
+
+-- a link of the routers of these names, and nothing where there is no such router
+abbrev pub link_entry : Topology → List ℕ → List ℕ → Bool → Bool → Option Entry
+link_entry t a b a_trusts b_trusts =
+    option_and_then (λ first. option_map (λ second. entry.Part (part.Link (record { a = first; b = second; a_trusts = a_trusts; b_trusts = b_trusts }))) (router_place b t.routers)) (router_place a t.routers)
+
+-- what a line adds, its names looked up among the domains and routers before; nothing where one of them isn't there
+abbrev pub entry_of : Topology → Line → Option Entry
+entry_of t (line.Set s value) = Some (entry.Set s value)
+entry_of t (line.Domain name ad) = Some (entry.Domain (record { name = name; ad = ad; key = key.Given }))
+entry_of t (line.Router name domain checking master) = router_entry t name domain checking master
+entry_of t (line.Host name router guarded eid) = host_entry t name router guarded eid
+entry_of t (line.Link a b a_trusts b_trusts) = link_entry t a b a_trusts b_trusts
+entry_of t line.Seed = None
+
+-- a setting out of its range, an id whose version is 0, a domain's id whose interface byte isn't 0, a link from a router to itself
+abbrev pub is_out_of_range : Entry → Bool
+is_out_of_range (entry.Set s value) = nat_lt value 1 || nat_lt (most_of s) value
+is_out_of_range (entry.Domain domain) = slice_index domain.ad.bytes 0 == 0 || not (slice_index domain.ad.bytes 19 == 0)
+is_out_of_range (entry.Router _) = false
+is_out_of_range (entry.Part (part.Host host)) = slice_index host.eid.bytes 0 == 0
+is_out_of_range (entry.Part (part.Link link)) = link.a == link.b
+
+-- the domain has this id
+abbrev pub has_ad : Id → Domain → Bool
+has_ad ad domain = bytes_eq domain.ad.bytes ad.bytes
+
+-- the router has this id
+abbrev pub has_eid : Id → Router → Bool
+has_eid eid router = bytes_eq router.address.eid.bytes eid.bytes
+
+-- it is a host whose key identifier is that of this id, whatever the interface
+abbrev pub has_key_id : Id → Part → Bool
+has_key_id eid (part.Host host) = bytes_eq (take 19 host.eid.bytes) (take 19 eid.bytes)
+has_key_id eid (part.Link _) = false
+
+-- a domain with the id of another, a router with the id of another, a host with the key identifier of another
+abbrev pub is_twin : Topology → Entry → Bool
+is_twin t (entry.Set _ _) = false
+is_twin t (entry.Domain domain) = list_any (has_ad domain.ad) t.domains
+is_twin t (entry.Router router) = list_any (has_eid router.address.eid) t.routers
+is_twin t (entry.Part (part.Host host)) = list_any (has_key_id host.eid) t.parts
+is_twin t (entry.Part (part.Link _)) = false
+
+-- the topology with what a line adds, behind what is there
+abbrev pub with_entry : Topology → Entry → Topology
+with_entry t (entry.Set s value) = record t { settings = with_setting s value t.settings }
+with_entry t (entry.Domain domain) = record t { domains = t.domains ++ domain ∷ [] }
+with_entry t (entry.Router router) = record t { routers = t.routers ++ router ∷ [] }
+with_entry t (entry.Part p) = record t { parts = t.parts ++ p ∷ [] }
+
+-- which settings were set, once this line was taken
+abbrev pub given_with : List Bool → Entry → List Bool
+given_with given (entry.Set s _) = slice_set given (place_of s) true
+given_with given (entry.Domain _) = given
+given_with given (entry.Router _) = given
+given_with given (entry.Part _) = given
+
+-- the draft with what a line adds
+abbrev pub draft_with : Draft → Entry → Draft
+draft_with draft e = record { topology = with_entry draft.topology e; given = given_with draft.given e }
+
+-- what was found for a line, unless it is out of range or the twin of another; Unknown where nothing was found
+abbrev pub judged : Topology → Option Entry → Result Entry TopoFault
+judged t None = Err fault.Unknown
+judged t (Some e) = if is_out_of_range e then Err fault.Range else if is_twin t e then Err fault.Twin else Ok e
+
+-- what a line adds, or its first fault: Many, Twice, Unknown, Range, Twin
+abbrev pub entry_or_fault : Draft → Line → Result Entry TopoFault
+entry_or_fault draft l =
+    if is_many draft.topology l then Err fault.Many
+    else if is_twice draft l then Err fault.Twice
+    else judged draft.topology (entry_of draft.topology l)
+
+-- the draft with what a line adds
+abbrev pub with_judged : Draft → Result Entry TopoFault → Result Draft TopoFault
+with_judged draft (Ok e) = Ok (draft_with draft e)
+with_judged draft (Err f) = Err f
+
+-- the draft with a line, or the first fault of the line
+abbrev pub with_line : Draft → Line → Result Draft TopoFault
+with_line draft l = with_judged draft (entry_or_fault draft l)
+
+-- there is room for the entry, and a setting's value isn't above its range
+abbrev pub fits : Topology → Entry → Bool
+fits t (entry.Set s value) = nat_le value (most_of s)
+fits t (entry.Domain _) = nat_lt (length t.domains) 64
+fits t (entry.Router _) = nat_lt (length t.routers) 256
+fits t (entry.Part _) = true

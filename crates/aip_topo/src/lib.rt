@@ -1,0 +1,28 @@
+//! Topologies: the settings, domains, routers, hosts and links of a network, read from their text
+//! and written to it.
+//!
+//! A text is a line for each of these. The first line that is refused ends the reading, with the
+//! first fault that applies to it.
+#![tactic(auto)]
+
+mod faults;
+mod line_reader;
+mod lines;
+mod lists;
+mod ports;
+mod reading;
+mod steps;
+mod topology;
+mod writing;
+
+pub use faults::{TopoEnd, TopoFault};
+pub use lines::{Line, Setting};
+pub use lists::{Domains, Parts, Routers};
+pub use ports::{Peer, Socket};
+pub use reading::read;
+pub use steps::{Draft, Entry};
+pub use topology::{Domain, HostPart, Key, LinkPart, Part, Router, Settings, Topology};
+pub use writing::write;
+
+#[cfg(test)]
+mod tests;

@@ -1,0 +1,136 @@
+ghost use Rattle.std.specs.Prelude.{◌≡◌, ◌<◌, ◌≤◌, ◌+◌, Some, IfOk, IfErr, OnOk, length};
+ghost use Rattle.aip_text.specs.Lines.{lines_of};
+ghost use Rattle.aip_topo.specs.Lines.{line_of};
+ghost use Rattle.aip_topo.specs.Sound.{IsSound};
+ghost use Rattle.aip_topo.specs.Reading.{Tells, empty_draft, is_long, is_seed, topology_of, with_lines, with_read, with_text};
+
+use crate::faults::{TopoEnd, TopoFault};
+use crate::line_reader::line_of;
+use crate::lines::Line;
+use crate::lists::{Domains, Parts, Routers};
+use crate::steps::{Draft, add, entry_or_fault};
+use crate::topology::{Settings, Topology};
+use aip_text::{has_carriage_return, is_skipped, next_line};
+use std::alloc::Global;
+
+/// The most bytes of a line.
+const LONGEST_LINE: usize = 20_000;
+
+/// The most bytes of a text that are read, line feeds included.
+const LONGEST_TEXT: usize = 1_048_576;
+
+/// The topology that the text gives. A refusal names the first line that is refused, with the first
+/// fault that applies to it.
+pub fn read(alloc: Global, text: &[u8]) -> Result<Topology, TopoEnd>
+    ensures found { IfOk result (λ topology. topology_of text.now ≡ Ok topology) }
+    ensures sound { IfOk result IsSound }
+    ensures refused { IfErr result (λ end. Tells end (topology_of text.now)) }
+{
+    read_exactly(alloc, text)
+}
+
+fn read_exactly(alloc: Global, text: &[u8]) -> Result<Topology, TopoEnd>
+    ensures found { IfOk result (λ topology. topology_of text.now ≡ Ok topology) }
+    ensures refused { IfErr result (λ end. Tells end (topology_of text.now)) }
+{
+    let mut draft = new_draft(alloc);
+    read_lines(&mut draft, text)?;
+    let Draft { topology, .. } = draft;
+    Ok(topology)
+}
+
+fn new_draft(alloc: Global) -> Draft
+    ensures { result ≡ empty_draft }
+{
+    Draft {
+        topology: Topology {
+            settings: Settings {
+                accept: 600,
+                cache: 64,
+                epoch: 60,
+                filter: 16,
+                log: 128,
+                threshold: 8,
+                wild: 600,
+                wildcache: 8,
+            },
+            domains: Domains::new(alloc),
+            routers: Routers::new(alloc),
+            parts: Parts::new(alloc),
+        },
+        given: [false; 8],
+    }
+}
+
+fn read_lines(draft: &mut Draft, text: &[u8]) -> Result<(), TopoEnd>
+    ensures ok { OnOk result (with_lines (length text.now) 1 0 draft.old (lines_of text.now) ≡ Ok draft.new) }
+    ensures err { IfErr result (λ end. Tells end (with_lines (length text.now) 1 0 draft.old (lines_of text.now))) }
+{
+    let mut rest = text;
+    let mut number = 1;
+    let mut start = 0;
+    'lines: while let Some(first) = next_line(rest) {
+        let after = start + first.line.len() + 1;
+        read_text(draft, number, after.min(text.len()), first.line)?;
+        rest = first.rest;
+        number += 1;
+        start = after;
+    }
+    Ok(())
+}
+
+// Reads the line of this number, which ends at this place of the text.
+fn read_text(draft: &mut Draft, number: u32, ending: usize, text: &[u8]) -> Result<(), TopoEnd>
+    ensures ok { OnOk result (with_text number ending draft.old text.now ≡ Ok draft.new) }
+    ensures err { IfErr result (λ end. Tells end (with_text number ending draft.old text.now)) }
+    ensures short { OnOk result (ending ≤ 1048576) }
+{
+    if is_long(ending, text) {
+        return Err(refused(number, TopoFault::Long));
+    }
+    if has_carriage_return(text) {
+        return Err(refused(number, TopoFault::Form));
+    }
+    if is_skipped(text) {
+        return Ok(());
+    }
+    match line_of(text) {
+        None => Err(refused(number, TopoFault::Form)),
+        Some(line) => take(draft, number, &line),
+    }
+}
+
+fn refused(line: u32, fault: TopoFault) -> TopoEnd
+    ensures { result ≡ TopoEnd.Line line fault }
+{
+    TopoEnd::Line { line, fault }
+}
+
+fn is_long(ending: usize, text: &[u8]) -> bool
+    ensures { result ≡ is_long ending text.now }
+{
+    text.len() > LONGEST_LINE || ending > LONGEST_TEXT
+}
+
+fn is_seed(line: &Line) -> bool
+    ensures { result ≡ is_seed line.now }
+{
+    matches!(line, Line::Seed)
+}
+
+// Takes the line of this number into the draft.
+fn take(draft: &mut Draft, number: u32, line: &Line) -> Result<(), TopoEnd>
+    ensures ok { OnOk result (with_read number draft.old (Some line.now) ≡ Ok draft.new) }
+    ensures err { IfErr result (λ end. Tells end (with_read number draft.old (Some line.now))) }
+{
+    if is_seed(line) {
+        return Err(TopoEnd::Unbuilt);
+    }
+    match entry_or_fault(draft, line) {
+        Ok(entry) => {
+            add(draft, entry)?;
+            Ok(())
+        }
+        Err(fault) => Err(refused(number, fault)),
+    }
+}

@@ -1,0 +1,218 @@
+use super::*;
+use aip_addr::Memory;
+use aip_text::{push_hex, push_number, push_text};
+use std::alloc::Global;
+use std::test::Fail;
+
+/// A network of one domain, one router and two hosts.
+const SMALL: &[u8] =
+    b"domain d id 0111111111111111111111111111111111111100\nrouter r d open 0000000000000000000000000000000000000000000000000000000000000000\nhost a r plain id 01aaaaaaaaaaaaaaaaaaaaaaaaaaaaaaaaaaaa00\nhost b r plain id 01bbbbbbbbbbbbbbbbbbbbbbbbbbbbbbbbbbbb00\n";
+
+/// Its canonical text.
+const SMALL_WHOLE: &[u8] =
+    b"set accept 600\nset cache 64\nset epoch 60\nset filter 16\nset log 128\nset threshold 8\nset wild 600\nset wildcache 8\ndomain d id 0111111111111111111111111111111111111100\nrouter r d open 0000000000000000000000000000000000000000000000000000000000000000\nhost a r plain id 01aaaaaaaaaaaaaaaaaaaaaaaaaaaaaaaaaaaa00\nhost b r plain id 01bbbbbbbbbbbbbbbbbbbbbbbbbbbbbbbbbbbb00\n";
+
+fn refusal(alloc: Global, text: &[u8]) -> Option<(u32, u64)> {
+    match read(alloc, text) {
+        Err(TopoEnd::Line { line, fault }) => Some((line, fault.number())),
+        _ => None,
+    }
+}
+
+fn is_unbuilt(alloc: Global, text: &[u8]) -> bool {
+    matches!(read(alloc, text), Err(TopoEnd::Unbuilt))
+}
+
+#[test]
+fn a_small_network_is_read_and_written(rt: HostRuntime) -> Result<(), Fail> {
+    let network = read(rt.alloc(), SMALL)?;
+    assert_eq!(rt; network.routers.as_slice().len(), 1);
+    assert_eq!(rt; network.parts.as_slice().len(), 2);
+    let text = write(rt.alloc(), &network)?;
+    assert_eq!(rt; text.as_slice(), SMALL_WHOLE);
+    let again = read(rt.alloc(), text.as_slice())?;
+    assert_eq!(rt; again.settings, network.settings);
+    assert_eq!(rt; again.routers.as_slice(), network.routers.as_slice());
+    assert_eq!(rt; again.parts.as_slice(), network.parts.as_slice());
+    Ok(())
+}
+
+#[test]
+fn an_empty_text_is_an_empty_network(rt: HostRuntime) -> Result<(), Fail> {
+    let network = read(rt.alloc(), b"")?;
+    assert_eq!(rt; network.settings.accept, 600);
+    assert!(rt; network.domains.as_slice().is_empty());
+    assert!(rt; network.parts.as_slice().is_empty());
+    Ok(())
+}
+
+#[test]
+fn lines_outside_the_grammar(rt: HostRuntime) -> Result<(), Fail> {
+    assert_eq!(rt; refusal(rt.alloc(), b"set cash 1\n"), Some((1, 1)));
+    // Skipped lines count.
+    assert_eq!(rt;
+        refusal(rt.alloc(), b"\n# a comment\nset cache  1"),
+        Some((3, 1))
+    );
+    // A carriage return in a skipped line.
+    assert_eq!(rt; refusal(rt.alloc(), b"#\r\n"), Some((1, 1)));
+    assert_eq!(rt;
+        refusal(
+            rt.alloc(),
+            b"domain d seed W3 H5 0000000000000000000000000000000000000000000000000000000000000000\n"
+        ),
+        Some((1, 1))
+    );
+    Ok(())
+}
+
+#[test]
+fn names_and_settings_twice(rt: HostRuntime) -> Result<(), Fail> {
+    // The value is out of range as well.
+    assert_eq!(rt;
+        refusal(rt.alloc(), b"set cache 1\nset cache 0\n"),
+        Some((2, 2))
+    );
+    // The id is that of the first domain as well.
+    assert_eq!(rt;
+        refusal(
+            rt.alloc(),
+            b"domain d id 0111111111111111111111111111111111111100\ndomain d id 0111111111111111111111111111111111111100\n"
+        ),
+        Some((2, 2))
+    );
+    // No domain has the second name.
+    assert_eq!(rt;
+        refusal(
+            rt.alloc(),
+            b"domain d id 0111111111111111111111111111111111111100\nrouter r d open 0000000000000000000000000000000000000000000000000000000000000000\nrouter r e open 0000000000000000000000000000000000000000000000000000000000000000\n"
+        ),
+        Some((3, 2))
+    );
+    Ok(())
+}
+
+#[test]
+fn names_that_are_unknown(rt: HostRuntime) -> Result<(), Fail> {
+    assert_eq!(rt;
+        refusal(
+            rt.alloc(),
+            b"domain d id 0111111111111111111111111111111111111100\nrouter r e open 0000000000000000000000000000000000000000000000000000000000000000\n"
+        ),
+        Some((2, 3))
+    );
+    // It would be a link from a router to itself as well.
+    assert_eq!(rt;
+        refusal(rt.alloc(), b"link x x trusted checked\n"),
+        Some((1, 3))
+    );
+    Ok(())
+}
+
+#[test]
+fn values_out_of_range(rt: HostRuntime) -> Result<(), Fail> {
+    assert_eq!(rt; refusal(rt.alloc(), b"set filter 257\n"), Some((1, 4)));
+    assert_eq!(rt; refusal(rt.alloc(), b"set wild 4294967296\n"), Some((1, 4)));
+    assert_eq!(rt;
+        refusal(
+            rt.alloc(),
+            b"domain d id 0011111111111111111111111111111111111100\n"
+        ),
+        Some((1, 4))
+    );
+    assert_eq!(rt;
+        refusal(
+            rt.alloc(),
+            b"domain d id 0111111111111111111111111111111111111101\n"
+        ),
+        Some((1, 4))
+    );
+    assert_eq!(rt;
+        refusal(
+            rt.alloc(),
+            b"domain d id 0111111111111111111111111111111111111100\nrouter r d open 0000000000000000000000000000000000000000000000000000000000000000\nlink r r trusted checked\n"
+        ),
+        Some((3, 4))
+    );
+    Ok(())
+}
+
+#[test]
+fn ids_of_others(rt: HostRuntime) -> Result<(), Fail> {
+    assert_eq!(rt;
+        refusal(
+            rt.alloc(),
+            b"domain d id 0111111111111111111111111111111111111100\ndomain e id 0111111111111111111111111111111111111100\n"
+        ),
+        Some((2, 5))
+    );
+    // Another interface of the same key.
+    assert_eq!(rt;
+        refusal(
+            rt.alloc(),
+            b"domain d id 0111111111111111111111111111111111111100\nrouter r d open 0000000000000000000000000000000000000000000000000000000000000000\nhost a r plain id 01aaaaaaaaaaaaaaaaaaaaaaaaaaaaaaaaaaaa00\nhost c r guarded id 01aaaaaaaaaaaaaaaaaaaaaaaaaaaaaaaaaaaa07\n"
+        ),
+        Some((4, 5))
+    );
+    Ok(())
+}
+
+// So many domains, and then one more line.
+fn domains_and(alloc: Global, count: u8, line: &[u8]) -> Result<Vec<u8>, Memory> {
+    let mut text = Vec::new(alloc);
+    for i in 0..count {
+        push_text(&mut text, b"domain d")?;
+        push_number(&mut text, i as u64)?;
+        push_text(&mut text, b" id 01")?;
+        push_hex(&mut text, &[i; 18])?;
+        push_text(&mut text, b"00\n")?;
+    }
+    push_text(&mut text, line)?;
+    Ok(text)
+}
+
+#[test]
+fn too_many_domains(rt: HostRuntime) -> Result<(), Fail> {
+    let whole = domains_and(rt.alloc(), 64, b"")?;
+    assert_eq!(rt; read(rt.alloc(), &whole)?.domains.as_slice().len(), 64);
+    // The name and the id are those of the first domain as well.
+    let more = domains_and(
+        rt.alloc(),
+        64,
+        b"domain d0 id 0100000000000000000000000000000000000000\n",
+    )?;
+    assert_eq!(rt; refusal(rt.alloc(), &more), Some((65, 6)));
+    let more = domains_and(rt.alloc(), 65, b"")?;
+    assert_eq!(rt; refusal(rt.alloc(), &more), Some((65, 6)));
+    Ok(())
+}
+
+#[test]
+fn lines_that_are_too_long(rt: HostRuntime) -> Result<(), Fail> {
+    // It has carriage returns as well.
+    let line = vec![in rt.alloc(); 13; 20_001]?;
+    assert_eq!(rt; refusal(rt.alloc(), &line), Some((1, 7)));
+    // The last line feed lies past the first 1,048,576 bytes.
+    let feeds = vec![in rt.alloc(); 10; 1_048_577]?;
+    assert_eq!(rt; refusal(rt.alloc(), &feeds), Some((1_048_577, 7)));
+    assert!(rt; read(rt.alloc(), &feeds[1..]).is_ok());
+    Ok(())
+}
+
+#[test]
+fn keys_from_seeds_are_not_built(rt: HostRuntime) -> Result<(), Fail> {
+    assert!(rt;
+        is_unbuilt(
+            rt.alloc(),
+            b"domain d seed W4 H5 0000000000000000000000000000000000000000000000000000000000000000\nset cache 0\n"
+        )
+    );
+    assert_eq!(rt;
+        refusal(
+            rt.alloc(),
+            b"set cache 0\ndomain d seed W4 H5 0000000000000000000000000000000000000000000000000000000000000000\n"
+        ),
+        Some((1, 4))
+    );
+    Ok(())
+}
