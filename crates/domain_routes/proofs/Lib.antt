@@ -1,0 +1,4 @@
+pub mod WayLemmas
+pub mod LevelLemmas
+pub mod SpreadLemmas
+pub mod SearchLemmas
