@@ -2,3 +2,4 @@ pub mod WayLemmas
 pub mod LevelLemmas
 pub mod SpreadLemmas
 pub mod SearchLemmas
+pub mod RowLemmas
