@@ -3,3 +3,4 @@ pub mod LevelLemmas
 pub mod SpreadLemmas
 pub mod SearchLemmas
 pub mod RowLemmas
+pub mod PortLemmas

@@ -1,7 +1,9 @@
 -- On the rows of the table of routes.
 use Rattle.std.proofs.Common.{◌≡◌, ℕ, suc, zero, ◌<◌, ◌≤◌, ◌+◌, ◌⊎◌, inl, inr, Bool, true, false, List, [], ◌∷◌, ◌++◌, length, get_or, take, drop, refl, sym, ◌∙◌, ap, subst, arith, Option, Some, None, All, Contains, IsTrue, Vec, length-append, min, eqb}
 use Rattle.std.specs.Prelude.{slice_get, if◌then◌else◌}
-use Rattle.std.proofs.lemmas.Bool.{cases_eq, cases_lt, eqb-true, eqb-false}
+use Rattle.std.specs.List.{list_any}
+use Rattle.std.proofs.lemmas.List.Folds.{list_any_at}
+use Rattle.std.proofs.lemmas.Bool.{cases_eq, cases_lt, eqb-true, eq-eqb}
 use Rattle.std.proofs.lemmas.List.{get_or_past, get_or_append_left, get_or_push, get_or_default, take_more}
 use Rattle.std.proofs.lemmas.Option.{slice_get-get_or, slice_get_past, slice_get_within}
 use Rattle.std.specs.declared.alloc.Global.{Global}
@@ -213,3 +215,22 @@ row_turn domains edges goal n row new levels seen ws own port h ds same is lt at
     let by : lowest (nearer_ports (level_at seen) own ws) ≡ port_towards domains edges n goal =
       ap (λ (xs : List (Option ℕ)). lowest (nearer_ports (level_at xs) own ws)) same ∙ ap (λ (o : Option ℕ). lowest (nearer_ports (level_at levels) o ws)) own_is ∙ port-by_levels domains edges goal levels n ws ds is in
     subst (λ (xs : List (Option ℕ)). IsRowUpTo domains edges goal (n + 1) xs) (sym pushed) (row_more domains edges goal n row port h (found ∙ by))
+
+-- what a test finds nowhere is not there
+pub not_there : (xs : List ℕ) (wanted : ℕ) → list_any (λ y. eqb y wanted) xs ≡ false → All (λ d. d ≡ wanted → ⊥) xs
+not_there xs wanted e k d lt same =
+    let found : list_any (λ y. eqb y wanted) xs ≡ true = list_any_at (λ y. eqb y wanted) xs k d lt (eq-eqb (get_or xs k d) wanted same) in cc
+
+-- numbers past a limit above all domains
+pub limit_past : (xs : List ℕ) (limit m : ℕ) → All (λ d. d < limit) xs → limit ≤ m → All (λ d. d ≡ m → ⊥) xs
+limit_past xs limit m above le k d lt same = let p : get_or xs k d < limit = above k d lt in omega arith
+
+pub domain_rows_all : (domains seen : List ℕ) (edges : List Edge) (limit n : ℕ) (rows : List (Vec (Option ℕ) Global)) → AreRowsUpTo domains edges (λ d. Domain d) n rows → All (λ d. d < limit) seen → seen ≡ domains → n ≡ limit → AreRows domains edges (λ d. Domain d) rows
+domain_rows_all domains seen edges limit n rows h above same all =
+    rows_all domains edges (λ d. Domain d) n rows h (λ m le. domains_past domains m (limit_past domains limit m (subst (λ (xs : List ℕ). All (λ d. d < limit) xs) same above) (omega arith)))
+
+pub router_rows_all : (domains : List ℕ) (edges : List Edge) (n : ℕ) (rows : List (Vec (Option ℕ) Global)) → AreRowsUpTo domains edges (λ r. Router r) n rows → n ≡ length domains → AreRows domains edges (λ r. Router r) rows
+router_rows_all domains edges n rows h all = rows_all domains edges (λ r. Router r) n rows h (λ m le. routers_past domains m (omega arith))
+
+pub rows_turn : (domains : List ℕ) (edges : List Edge) (kind : ℕ → Goal) (n : ℕ) (rows new : List (Vec (Option ℕ) Global)) (row : Vec (Option ℕ) Global) → AreRowsUpTo domains edges kind n rows → IsRow domains edges (kind n) row.items → new ≡ rows ++ row ∷ [] → AreRowsUpTo domains edges kind (n + 1) new
+rows_turn domains edges kind n rows new row h is pushed = subst (λ (xs : List (Vec (Option ℕ) Global)). AreRowsUpTo domains edges kind (n + 1) xs) (sym pushed) (rows_more domains edges kind n rows row h is)

@@ -1,6 +1,12 @@
 -- On the ways out of a router, and on walks.
 use Rattle.std.proofs.Common.{◌≡◌, ℕ, suc, zero, ◌<◌, ◌&&◌, ◌+◌, ◌⊎◌, inl, inr, Bool, true, false, List, [], ◌∷◌, ◌++◌, length, get_or, refl, sym, ◌∙◌, ap, subst, arith, Option, Some, None, All, Contains, eqb}
-use Rattle.std.proofs.lemmas.Bool.{eqb-true, eq-eqb, and_parts, and_from, both_ways}
+use Rattle.std.proofs.Common.{Vec, length-append}
+use Rattle.std.specs.Prelude.{slice_get}
+use Rattle.std.specs.declared.alloc.Global.{Global}
+use Rattle.std.proofs.lemmas.List.{get_or_append_left, get_or_push}
+use Rattle.std.proofs.lemmas.Option.{slice_get-get_or, slice_get_within}
+use Rattle.domain_routes.specs.Levels.{AreWays}
+use Rattle.std.proofs.lemmas.Bool.{eqb-true, eq-eqb, and_parts, and_from, cases_eq}
 use Rattle.std.proofs.lemmas.List.Elements.{All-contains, All-cons, All-nil, All-head, All-tail, Contains-append_cases, Contains-append_left, Contains-append_right, Contains-get_or}
 use Rattle.std.proofs.lemmas.List.Folds.{Any-from_list_any, list_any-from_Any}
 use Rattle.std.specs.List.{list_any}
@@ -89,3 +95,30 @@ walk-more domains es goal n router w c h =
 pub walk-zero : (domains : List ℕ) (es : List Edge) (goal : Goal) (router : ℕ) → has_walk domains es goal 0 router ≡ is_in_goal domains goal router
 unfolding has_walk
 walk-zero domains es goal router = refl
+
+-- the ways out of the routers up to one of them
+pub record AreWaysUpTo (edges : List Edge) (n : ℕ) (all : List (Vec Way Global)) : Type 0 where
+  pub count : length all ≡ n
+  pub each : (router : ℕ) (d : Vec Way Global) → router < n → (get_or all router d).items ≡ ways edges router
+
+pub ways_none : (edges : List Edge) → AreWaysUpTo edges 0 []
+ways_none edges = record { count = refl; each = λ router d lt. absurd (omega arith) }
+
+pub ways_more : (edges : List Edge) (n : ℕ) (all : List (Vec Way Global)) (row : Vec Way Global) → AreWaysUpTo edges n all → row.items ≡ ways edges n → AreWaysUpTo edges (n + 1) (all ++ row ∷ [])
+ways_more edges n all row h is = record {
+  count = let c : length all ≡ n = h.count in omega (arith, length-append all (row ∷ []));
+  each = λ router d below. let c : length all ≡ n = h.count in elim (cases_eq router n) [
+      inl q ↦ ap (λ (v : Vec Way Global). v.items) (get_or_push all row d router (c ∙ sym q)) ∙ is ∙ ap (ways edges) (sym q)
+    | inr ne ↦ let in' : router < length all = omega arith in ap (λ (v : Vec Way Global). v.items) (get_or_append_left all (row ∷ []) d router in') ∙ h.each router d (omega arith) ]
+}
+
+pub ways_all : (domains : List ℕ) (edges : List Edge) (n : ℕ) (all : List (Vec Way Global)) → AreWaysUpTo edges n all → n ≡ length domains → AreWays domains edges all
+ways_all domains edges n all h same = record {
+  count = h.count ∙ same;
+  each = λ router row e.
+    let in' : router < length all = slice_get_within all router row e in
+    let c : length all ≡ n = h.count in
+    let at : Some row ≡ Some (get_or all router row) = sym e ∙ slice_get-get_or all router row in' in
+    let q : row ≡ get_or all router row = cc in
+    ap (λ (v : Vec Way Global). v.items) q ∙ h.each router row (omega arith)
+}

@@ -1,5 +1,5 @@
 -- Walks over the links that are up, the distances that they give, and the port towards a goal.
-use Rattle.std.specs.Prelude.{◌≡◌, ℕ, zero, suc, ◌+◌, ◌<◌, ◌≤◌, ◌==◌, ◌&&◌, Bool, true, false, IsTrue, if◌then◌else◌, min, List, [], ◌∷◌, ◌++◌, length, slice_get, Option, Some, None}
+use Rattle.std.specs.Prelude.{◌≡◌, ℕ, zero, suc, ◌+◌, ◌<◌, ◌≤◌, ◌==◌, ◌&&◌, Bool, true, false, IsTrue, ◌⊎◌, Contains, All, if◌then◌else◌, min, List, [], ◌∷◌, ◌++◌, length, slice_get, Option, Some, None}
 use Rattle.std.specs.List.{list_any}
 use Rattle.domain_routes.specs.declared.Edge.{Edge}
 use Rattle.domain_routes.specs.declared.Way.{Way}
@@ -9,6 +9,11 @@ use Rattle.domain_routes.specs.declared.Goal.TheVariants.{Domain, Router}
 -- the link joins two routers of the graph
 abbrev pub JoinsRouters : List ℕ → Edge → Type 0
 JoinsRouters domains e = (e.a < length domains) × (e.b < length domains)
+
+-- the graph has at most 256 routers, and each link joins two of them
+pub record IsSound (domains : List ℕ) (edges : List Edge) : Type 0 where
+  pub routers : length domains ≤ 256
+  pub links : All (JoinsRouters domains) edges
 
 -- the option holds this number
 abbrev pub holds : Option ℕ → ℕ → Bool
@@ -96,3 +101,17 @@ NoWalk domains edges goal router = (m : ℕ) → IsTrue (has_walk domains edges 
 pub record DistancesAreLeast (domains : List ℕ) (edges : List Edge) (goal : Goal) : Type 0 where
   pub least : (router n : ℕ) → distance domains edges goal router ≡ Some n → IsLeastWalk domains edges goal router n
   pub none : (router : ℕ) → distance domains edges goal router ≡ None → NoWalk domains edges goal router
+
+-- the port leads by a link that is up one step nearer to the goal, and no lower port of the router does
+pub record IsLowestStep (domains : List ℕ) (edges : List Edge) (goal : Goal) (router port : ℕ) : Type 0 where
+  pub left : ℕ
+  pub own : distance domains edges goal router ≡ Some (suc left)
+  pub way : Way
+  pub out : Contains (ways edges router) way
+  pub by_port : way.port ≡ port
+  pub nearer : distance domains edges goal way.neighbour ≡ Some left
+  pub lowest_port : (other : Way) → Contains (ways edges router) other → distance domains edges goal other.neighbour ≡ Some left → port ≤ other.port
+
+-- there is nowhere to go: the router is in the goal, or no walk leads there
+abbrev pub HasNoStep : (domains : List ℕ) (edges : List Edge) (goal : Goal) (router : ℕ) → Type 0
+HasNoStep domains edges goal router = IsTrue (is_in_goal domains goal router) ⊎ NoWalk domains edges goal router

@@ -2,14 +2,17 @@
 //! port whose link is up and whose neighbour is one step nearer to the goal.
 #![tactic(auto)]
 
-ghost use Rattle.std.specs.Prelude.{◌≡◌, ◌≤◌, ℕ, length, List, All, IfOk};
-ghost use Rattle.domain_routes.specs.Walks.{JoinsRouters, port_towards};
+ghost use Rattle.std.specs.Prelude.{◌≡◌, ◌↔◌, ℕ, List, IfOk, IfSome, IsNone, IsTrue};
+ghost use Rattle.domain_routes.specs.declared.Edge.{Edge as Link};
+ghost use Rattle.domain_routes.specs.Walks.{IsSound, port_towards, DistancesAreLeast, IsLowestStep, HasNoStep};
 ghost use Rattle.domain_routes.specs.Table.{port_of, IsRoutesOf};
 
 use std::alloc::{AllocError, Global};
 
 mod levels;
 mod rows;
+#[cfg(test)]
+mod tests;
 mod ways;
 
 /// A link between the routers `a` and `b`, which it meets at the ports `a_port` and `b_port`. While it is up it may
@@ -37,6 +40,20 @@ pub struct Graph {
     pub edges: Vec<Edge>,
 }
 
+impl Graph {
+    /// Whether the graph has at most 256 routers, and each link joins two of them.
+    pub fn is_sound(&self) -> bool
+        ensures { IsTrue result ↔ IsSound self.now.domains.items self.now.edges.items }
+    {
+        let routers = self.domains.len();
+        routers <= 256
+            && self
+                .edges
+                .iter()
+                .all(|edge| (edge.a as usize) < routers && (edge.b as usize) < routers)
+    }
+}
+
 /// Where a walk is to end: at any router of a domain, or at one router.
 #[derive(Clone, Copy, PartialEq, Eq, Debug)]
 pub enum Goal {
@@ -46,9 +63,9 @@ pub enum Goal {
 
 /// A way out of a router: a port whose link is up, and the router at the link's other end.
 #[derive(Clone, Copy, PartialEq, Eq, Debug)]
-pub struct Way {
-    pub port: u16,
-    pub neighbour: u16,
+pub(crate) struct Way {
+    pub(crate) port: u16,
+    pub(crate) neighbour: u16,
 }
 
 /// The ports of all routers towards all goals.
@@ -63,8 +80,8 @@ pub struct Routes {
 impl Routes {
     /// The routes of a graph of at most 256 routers. The only error is that memory runs out.
     pub fn compute(alloc: Global, graph: &Graph) -> Result<Routes, AllocError>
-        requires routers { length graph.now.domains.items ≤ 256 }
-        requires edges { All (JoinsRouters graph.now.domains.items) graph.now.edges.items }
+        requires { IsSound graph.now.domains.items graph.now.edges.items }
+        ensures { IfOk result (λ routes. IsRoutesOf routes graph.now.domains.items graph.now.edges.items) }
     {
         let ways = ways::all_ways(alloc, graph)?;
         let by_domain = rows::to_domains(alloc, graph, &ways)?;
@@ -74,7 +91,15 @@ impl Routes {
 
     /// The port of the router towards the goal: the lowest whose link is up and whose neighbour is one step nearer.
     /// None where the router is in the goal, and where no walk over links that are up leads there.
-    pub fn port(&self, router: u16, goal: Goal) -> Option<u16> {
+    pub fn port(&self, router: u16, goal: Goal) -> Option<u16>
+        ensures held { result ≡ port_of self.now router goal }
+
+        // For the graph whose routes these are: the port, and what that means.
+        ensures towards { (domains : List ℕ) (edges : List Link) → IsRoutesOf self.now domains edges → result ≡ port_towards domains edges router goal }
+        ensures lowest { (domains : List ℕ) (edges : List Link) → IsRoutesOf self.now domains edges → IfSome result (IsLowestStep domains edges goal router) }
+        ensures none { (domains : List ℕ) (edges : List Link) → IsRoutesOf self.now domains edges → (IsNone result ↔ HasNoStep domains edges goal router) }
+        ensures least { (domains : List ℕ) (edges : List Link) → IsRoutesOf self.now domains edges → DistancesAreLeast domains edges goal }
+    {
         match goal {
             Goal::Domain(domain) => rows::entry(&self.by_domain, domain, router),
             Goal::Router(target) => rows::entry(&self.by_router, target, router),
