@@ -1,15 +1,15 @@
 -- On the port towards a goal.
-use Rattle.std.proofs.Common.{◌≡◌, ℕ, suc, zero, ◌<◌, ◌≤◌, ◌+◌, ◌⊎◌, inl, inr, Bool, true, false, List, [], ◌∷◌, ◌++◌, length, get_or, refl, sym, ◌∙◌, ap, subst, arith, Option, Some, None, All, Contains, IsTrue, min, eqb}
+use Rattle.std.proofs.Common.{◌≡◌, ℕ, suc, zero, ◌≤◌, ◌+◌, inl, inr, Bool, true, false, List, [], ◌∷◌, refl, sym, ◌∙◌, ap, subst, arith, Option, Some, None, Contains, min}
 use Rattle.std.specs.Prelude.{if◌then◌else◌, IfSome, IsNone, ◌↔◌}
 use Rattle.std.proofs.lemmas.Bool.{eqb-true, eq-eqb, cases_lt}
-use Rattle.std.proofs.lemmas.List.Elements.{All-contains, All-nil, All-cons, Contains-append_left, Contains-append_right, Contains-append_cases, Contains-get_or}
+use Rattle.std.proofs.lemmas.List.Elements.{All-contains, All-nil, All-cons, Contains-append_right, Contains-append_cases}
 use Rattle.domain_routes.specs.declared.Edge.{Edge}
 use Rattle.domain_routes.specs.declared.Way.{Way}
 use Rattle.domain_routes.specs.declared.Goal.{Goal}
 use Rattle.domain_routes.specs.declared.Goal.TheVariants.{Domain, Router}
 use Rattle.domain_routes.specs.declared.Routes.{Routes}
-use Rattle.domain_routes.specs.Walks.{ways, is_in_goal, has_walk, distance, is_one_less, lower_of, lowest, nearer_ports, port_towards, holds, NoWalk, IsLeastWalk, DistancesAreLeast, IsLowestStep, HasNoStep}
-use Rattle.domain_routes.specs.Rows.{AreRows, entry_of}
+use Rattle.domain_routes.specs.Walks.{ways, is_in_goal, has_walk, distance, is_one_less, lower_of, lowest, nearer_ports, port_towards, NoWalk, IsLeastWalk, DistancesAreLeast, IsLowestStep, HasNoStep}
+use Rattle.domain_routes.specs.Rows.{AreRows}
 use Rattle.domain_routes.specs.Table.{port_of, IsRoutesOf}
 use Rattle.domain_routes.proofs.WayLemmas.{walk-first, walk-more, walk-zero}
 use Rattle.domain_routes.proofs.RowLemmas.{port-none}
@@ -30,8 +30,9 @@ pub record IsLowestOf (ps : List ℕ) (p : ℕ) : Type 0 where
 
 lower_there : (x n p : ℕ) (ps : List ℕ) → Contains ps n → min x n ≡ p → Contains (x ∷ ps) p
 lower_there x n p ps c is = elim (cases_lt x n) [
-    inl lt ↦ let q : x ≡ p = omega arith in subst (λ (m : ℕ). Contains (x ∷ ps) m) q (0, omega arith, refl)
-  | inr ge ↦ let q : n ≡ p = omega arith in subst (λ (m : ℕ). Contains (x ∷ ps) m) q (Contains-append_right (x ∷ []) ps n c) ]
+  | inl lt ↦ let q : x ≡ p = omega arith in subst (λ (m : ℕ). Contains (x ∷ ps) m) q (0, omega arith, refl)
+  | inr ge ↦ let q : n ≡ p = omega arith in subst (λ (m : ℕ). Contains (x ∷ ps) m) q (Contains-append_right (x ∷ []) ps n c)
+]
 
 lower_step : (x p : ℕ) (ps : List ℕ) (o : Option ℕ) → lowest ps ≡ o → ((n : ℕ) → o ≡ Some n → IsLowestOf ps n) → (o ≡ None → ps ≡ []) → lower_of (Some x) o ≡ Some p → IsLowestOf (x ∷ ps) p
 lower_step x p ps None e some none is =
@@ -40,8 +41,9 @@ lower_step x p ps None e some none is =
     record {
       there = subst (λ (n : ℕ). Contains (x ∷ ps) n) q (0, omega arith, refl);
       least = λ r c. elim (Contains-append_cases (x ∷ []) ps r c) [
-          inl h ↦ let s : r ≡ x = one_only x r h in omega arith
-        | inr h ↦ absurd (no_port r (subst (λ (l : List ℕ). Contains l r) nil h)) ]
+        | inl h ↦ let s : r ≡ x = one_only x r h in omega arith
+        | inr h ↦ absurd (no_port r (subst (λ (l : List ℕ). Contains l r) nil h))
+      ];
     }
 lower_step x p ps (Some n) e some none is =
     let q : min x n ≡ p = cc in
@@ -49,8 +51,9 @@ lower_step x p ps (Some n) e some none is =
     record {
       there = lower_there x n p ps h.there q;
       least = λ r c. elim (Contains-append_cases (x ∷ []) ps r c) [
-          inl k ↦ let s : r ≡ x = one_only x r k in omega arith
-        | inr k ↦ let s : n ≤ r = h.least r k in omega arith ]
+        | inl k ↦ let s : r ≡ x = one_only x r k in omega arith
+        | inr k ↦ let s : n ≤ r = h.least r k in omega arith
+      ];
     }
 
 lower_is_some : (x : ℕ) (o : Option ℕ) → lower_of (Some x) o ≡ None → ⊥
@@ -77,8 +80,9 @@ later_way at own w ws p h = record { way = h.way; out = Contains-append_right (w
 
 nearer_step : (b : Bool) (at : ℕ → Option ℕ) (own : Option ℕ) (w : Way) (ws : List Way) (p : ℕ) (ps : List ℕ) → is_one_less (at w.neighbour) own ≡ b → Contains (if b then w.port ∷ ps else ps) p → (Contains ps p → IsNearerWay at own ws p) → IsNearerWay at own (w ∷ ws) p
 nearer_step true at own w ws p ps e c later = elim (Contains-append_cases (w.port ∷ []) ps p c) [
-    inl h ↦ record { way = w; out = (0, omega arith, refl); by_port = sym (one_only w.port p h); nearer = e }
-  | inr h ↦ later_way at own w ws p (later h) ]
+  | inl h ↦ record { way = w; out = (0, omega arith, refl); by_port = sym (one_only w.port p h); nearer = e }
+  | inr h ↦ later_way at own w ws p (later h)
+]
 nearer_step false at own w ws p ps e c later = later_way at own w ws p (later c)
 
 pub nearer_way : (at : ℕ → Option ℕ) (own : Option ℕ) (ws : List Way) (p : ℕ) → Contains (nearer_ports at own ws) p → IsNearerWay at own ws p
@@ -97,10 +101,11 @@ at_if false p ps e = cc
 pub nearer_in : (at : ℕ → Option ℕ) (own : Option ℕ) (ws : List Way) (w : Way) → Contains ws w → is_one_less (at w.neighbour) own ≡ true → Contains (nearer_ports at own ws) w.port
 nearer_in at own [] w c e = absurd (All-contains (λ (y : Way). ⊥) [] w (All-nil (λ (y : Way). ⊥)) c)
 nearer_in at own (v ∷ ws) w c e = elim (Contains-append_cases (v ∷ []) ws w c) [
-    inl h ↦
+  | inl h ↦
       let q : w ≡ v = way_only v w h in
       subst (λ (x : Way). Contains (nearer_ports at own (v ∷ ws)) x.port) (sym q) (at_if (is_one_less (at v.neighbour) own) v.port (nearer_ports at own ws) (subst (λ (x : Way). is_one_less (at x.neighbour) own ≡ true) q e))
-  | inr h ↦ in_if (is_one_less (at v.neighbour) own) v.port w.port (nearer_ports at own ws) (nearer_in at own ws w h e) ]
+  | inr h ↦ in_if (is_one_less (at v.neighbour) own) v.port w.port (nearer_ports at own ws) (nearer_in at own ws w h e)
+]
 
 one_less_some : (near far : Option ℕ) → is_one_less near far ≡ true → (n : ℕ) × (near ≡ Some n) × (far ≡ Some (suc n))
 one_less_some None far e = cc
@@ -126,7 +131,7 @@ port-some domains edges goal router p e =
       out = by.out;
       by_port = by.by_port;
       nearer = n.1;
-      lowest_port = λ other c near. low.least other.port (nearer_in at own (ways edges router) other c (some_one_less (at other.neighbour) own n.0 near n.2))
+      lowest_port = λ other c near. low.least other.port (nearer_in at own (ways edges router) other c (some_one_less (at other.neighbour) own n.0 near n.2));
     }
 
 near_of : (domains : List ℕ) (edges : List Edge) (goal : Goal) (router : ℕ) (w : Way) (n : ℕ) → DistancesAreLeast domains edges goal → IsLeastWalk domains edges goal router (suc n) → Contains (ways edges router) w → has_walk domains edges goal n w.neighbour ≡ true → (o : Option ℕ) → distance domains edges goal w.neighbour ≡ o → o ≡ Some n
@@ -152,7 +157,6 @@ no_step_by domains edges goal router None law e none = inr (law.none router e)
 no_step_by domains edges goal router (Some zero) law e none = inl (sym (walk-zero domains edges goal router) ∙ (law.least router 0 e).walk)
 no_step_by domains edges goal router (Some (suc n)) law e none = absurd (port_of_walk domains edges goal router n law e none)
 
-
 at_goal : (domains : List ℕ) (edges : List Edge) (goal : Goal) (router : ℕ) (o : Option ℕ) → DistancesAreLeast domains edges goal → is_in_goal domains goal router ≡ true → distance domains edges goal router ≡ o → o ≡ Some 0
 at_goal domains edges goal router None law t e = absurd (law.none router e 0 (walk-zero domains edges goal router ∙ t))
 at_goal domains edges goal router (Some n) law t e = let q : n ≤ 0 = (law.least router n e).least 0 (walk-zero domains edges goal router ∙ t) in ap Some (omega arith)
@@ -170,8 +174,9 @@ none_by domains edges goal router (Some p) e is =
 
 pub no_step_none : (domains : List ℕ) (edges : List Edge) (goal : Goal) (router : ℕ) → DistancesAreLeast domains edges goal → HasNoStep domains edges goal router → port_towards domains edges router goal ≡ None
 no_step_none domains edges goal router law h = elim h [
-    inl t ↦ none_by domains edges goal router (port_towards domains edges router goal) (at_goal domains edges goal router (distance domains edges goal router) law t refl) refl
-  | inr never ↦ port-none domains edges goal router (never_by domains edges goal router (distance domains edges goal router) law never refl) ]
+  | inl t ↦ none_by domains edges goal router (port_towards domains edges router goal) (at_goal domains edges goal router (distance domains edges goal router) law t refl) refl
+  | inr never ↦ port-none domains edges goal router (never_by domains edges goal router (distance domains edges goal router) law never refl)
+]
 
 pub none_no_step : (domains : List ℕ) (edges : List Edge) (goal : Goal) (router : ℕ) → DistancesAreLeast domains edges goal → port_towards domains edges router goal ≡ None → HasNoStep domains edges goal router
 none_no_step domains edges goal router law none = no_step_by domains edges goal router (distance domains edges goal router) law refl none
@@ -200,7 +205,7 @@ routes_law domains edges routes d r (Router n) = r.law n
 pub routes_of : (domains : List ℕ) (edges : List Edge) (routes : Routes) → AreRows domains edges (λ d. Domain d) routes.by_domain.items → AreRows domains edges (λ r. Router r) routes.by_router.items → IsRoutesOf routes domains edges
 routes_of domains edges routes d r = record {
   ports = λ router goal. routes_port domains edges routes d r router goal;
-  law = λ goal. routes_law domains edges routes d r goal
+  law = λ goal. routes_law domains edges routes d r goal;
 }
 
 -- what a port says, for the graph whose routes these are
@@ -210,4 +215,5 @@ port_lowest routes router goal answer is domains edges h = if_some answer (IsLow
 pub port_nowhere : (routes : Routes) (router : ℕ) (goal : Goal) (answer : Option ℕ) → answer ≡ port_of routes router goal → (domains : List ℕ) (edges : List Edge) → IsRoutesOf routes domains edges → IsNone answer ↔ HasNoStep domains edges goal router
 port_nowhere routes router goal answer is domains edges h = (
   λ none. none_no_step domains edges goal router (h.law goal) (sym (is ∙ h.ports router goal) ∙ none_is answer none),
-  λ nowhere. is_none_of answer (is ∙ h.ports router goal ∙ no_step_none domains edges goal router (h.law goal) nowhere) )
+  λ nowhere. is_none_of answer (is ∙ h.ports router goal ∙ no_step_none domains edges goal router (h.law goal) nowhere),
+)

@@ -1,19 +1,19 @@
 -- On the rows of the table of routes.
-use Rattle.std.proofs.Common.{◌≡◌, ℕ, suc, zero, ◌<◌, ◌≤◌, ◌+◌, ◌⊎◌, inl, inr, Bool, true, false, List, [], ◌∷◌, ◌++◌, length, get_or, take, drop, refl, sym, ◌∙◌, ap, subst, arith, Option, Some, None, All, Contains, IsTrue, Vec, length-append, min, eqb}
+use Rattle.std.proofs.Common.{◌≡◌, ℕ, suc, zero, ◌<◌, ◌≤◌, ◌+◌, inl, inr, Bool, true, false, List, [], ◌∷◌, ◌++◌, length, get_or, take, refl, sym, ◌∙◌, ap, subst, arith, Option, Some, None, All, Contains, Vec, length-append, min, eqb}
 use Rattle.std.specs.Prelude.{slice_get, if◌then◌else◌}
 use Rattle.std.specs.List.{list_any}
 use Rattle.std.proofs.lemmas.List.Folds.{list_any_at}
 use Rattle.std.proofs.lemmas.Bool.{cases_eq, cases_lt, eqb-true, eq-eqb}
 use Rattle.std.proofs.lemmas.List.{get_or_past, get_or_append_left, get_or_push, get_or_default, take_more}
-use Rattle.std.proofs.lemmas.Option.{slice_get-get_or, slice_get_past, slice_get_within}
+use Rattle.std.proofs.lemmas.Option.{slice_get-get_or, slice_get_within}
 use Rattle.std.specs.declared.alloc.Global.{Global}
 use Rattle.domain_routes.specs.declared.Edge.{Edge}
 use Rattle.domain_routes.specs.declared.Way.{Way}
 use Rattle.domain_routes.specs.declared.Goal.{Goal}
 use Rattle.domain_routes.specs.declared.Goal.TheVariants.{Domain, Router}
-use Rattle.domain_routes.specs.Walks.{JoinsRouters, ways, takes_in, is_in_goal, has_walk, least_below, distance, is_one_less, lower_of, lowest, nearer_ports, port_towards, NoWalk, DistancesAreLeast}
-use Rattle.domain_routes.specs.Levels.{level_at, AreDistances, AreWays}
-use Rattle.domain_routes.specs.Rows.{entry_in, entry_of, IsRow, AreRows}
+use Rattle.domain_routes.specs.Walks.{ways, takes_in, is_in_goal, has_walk, distance, is_one_less, lower_of, lowest, nearer_ports, port_towards, DistancesAreLeast}
+use Rattle.domain_routes.specs.Levels.{level_at, AreDistances}
+use Rattle.domain_routes.specs.Rows.{entry_in, IsRow, AreRows}
 use Rattle.domain_routes.proofs.WayLemmas.{walk-first, walk-zero}
 use Rattle.domain_routes.proofs.SearchLemmas.{least_below-none}
 
@@ -64,14 +64,14 @@ empty_distance domains edges goal router h =
 pub empty_law : (domains : List ℕ) (edges : List Edge) (goal : Goal) → ((r : ℕ) → is_in_goal domains goal r ≡ false) → DistancesAreLeast domains edges goal
 empty_law domains edges goal h = record {
   least = λ router n e. absurd (let a : distance domains edges goal router ≡ None = empty_distance domains edges goal router h in cc);
-  none = λ router e m t. empty_walk domains edges goal m router h t
+  none = λ router e m t. empty_walk domains edges goal m router h t;
 }
 
 -- the empty row is that of a goal without routers
 pub empty_row : (domains : List ℕ) (edges : List Edge) (goal : Goal) → ((r : ℕ) → is_in_goal domains goal r ≡ false) → IsRow domains edges goal []
 empty_row domains edges goal h = record {
   ports = λ router. sym (port-none domains edges goal router (empty_distance domains edges goal router h));
-  law = empty_law domains edges goal h
+  law = empty_law domains edges goal h;
 }
 
 -- a row as far as a router
@@ -86,19 +86,21 @@ pub row_more : (domains : List ℕ) (edges : List Edge) (goal : Goal) (n : ℕ) 
 row_more domains edges goal n row port h is = record {
   count = let c : length row ≡ n = h.count in omega (arith, length-append row (port ∷ []));
   each = λ router below. let c : length row ≡ n = h.count in elim (cases_eq router n) [
-      inl q ↦ get_or_push row port None router (c ∙ sym q) ∙ is ∙ ap (λ (r : ℕ). port_towards domains edges r goal) (sym q)
-    | inr ne ↦ let in' : router < length row = omega arith in get_or_append_left row (port ∷ []) None router in' ∙ h.each router (omega arith) ]
+    | inl q ↦ get_or_push row port None router (c ∙ sym q) ∙ is ∙ ap (λ (r : ℕ). port_towards domains edges r goal) (sym q)
+    | inr ne ↦ let in' : router < length row = omega arith in get_or_append_left row (port ∷ []) None router in' ∙ h.each router (omega arith)
+  ];
 }
 
 pub row_all : (domains : List ℕ) (edges : List Edge) (goal : Goal) (n : ℕ) (row levels : List (Option ℕ)) → IsRowUpTo domains edges goal n row → AreDistances domains edges goal levels → n ≡ length domains → IsRow domains edges goal row
 row_all domains edges goal n row levels h ds all = record {
   ports = λ router. elim (cases_lt router n) [
-      inl lt ↦ h.each router lt
+    | inl lt ↦ h.each router lt
     | inr past ↦
         let c : length row ≡ n = h.count in
         let d : length levels ≡ length domains = ds.count in
-        get_or_past row router None (omega arith) ∙ sym (port-none domains edges goal router (sym (ds.exact router) ∙ get_or_past levels router None (omega arith))) ];
-  law = ds.law
+        get_or_past row router None (omega arith) ∙ sym (port-none domains edges goal router (sym (ds.exact router) ∙ get_or_past levels router None (omega arith)))
+  ];
+  law = ds.law;
 }
 
 -- rows as far as a goal's number
@@ -113,8 +115,9 @@ pub rows_more : (domains : List ℕ) (edges : List Edge) (kind : ℕ → Goal) (
 rows_more domains edges kind n rows row h is = record {
   count = let c : length rows ≡ n = h.count in omega (arith, length-append rows (row ∷ []));
   each = λ number d below. let c : length rows ≡ n = h.count in elim (cases_eq number n) [
-      inl q ↦ subst (λ (v : Vec (Option ℕ) Global). IsRow domains edges (kind number) v.items) (sym (get_or_push rows row d number (c ∙ sym q))) (subst (λ (m : ℕ). IsRow domains edges (kind m) row.items) (sym q) is)
-    | inr ne ↦ let in' : number < length rows = omega arith in subst (λ (v : Vec (Option ℕ) Global). IsRow domains edges (kind number) v.items) (sym (get_or_append_left rows (row ∷ []) d number in')) (h.each number d (omega arith)) ]
+    | inl q ↦ subst (λ (v : Vec (Option ℕ) Global). IsRow domains edges (kind number) v.items) (sym (get_or_push rows row d number (c ∙ sym q))) (subst (λ (m : ℕ). IsRow domains edges (kind m) row.items) (sym q) is)
+    | inr ne ↦ let in' : number < length rows = omega arith in subst (λ (v : Vec (Option ℕ) Global). IsRow domains edges (kind number) v.items) (sym (get_or_append_left rows (row ∷ []) d number in')) (h.each number d (omega arith))
+  ];
 }
 
 entry_is : (domains : List ℕ) (edges : List Edge) (goal : Goal) (number router : ℕ) (rows : List (Vec (Option ℕ) Global)) (o : Option (Vec (Option ℕ) Global)) → slice_get rows number ≡ o → ((row : Vec (Option ℕ) Global) → o ≡ Some row → IsRow domains edges goal row.items) → (o ≡ None → (r : ℕ) → is_in_goal domains goal r ≡ false) → entry_in o router ≡ port_towards domains edges router goal
@@ -141,9 +144,9 @@ law_at domains edges kind n number rows (Some row) e h past = (row_at domains ed
 pub rows_all : (domains : List ℕ) (edges : List Edge) (kind : ℕ → Goal) (n : ℕ) (rows : List (Vec (Option ℕ) Global)) → AreRowsUpTo domains edges kind n rows → ((m : ℕ) → n ≤ m → (r : ℕ) → is_in_goal domains (kind m) r ≡ false) → AreRows domains edges kind rows
 rows_all domains edges kind n rows h past = record {
   ports = λ number router. entry_is domains edges (kind number) number router rows (slice_get rows number) refl
-    (λ row e. row_at domains edges kind n rows number row h e)
-    (λ e. past number (let c : length rows ≡ n = h.count in omega (arith, past_of rows number e)));
-  law = λ number. law_at domains edges kind n number rows (slice_get rows number) refl h past
+      (λ row e. row_at domains edges kind n rows number row h e)
+      (λ e. past number (let c : length rows ≡ n = h.count in omega (arith, past_of rows number e)));
+  law = λ number. law_at domains edges kind n number rows (slice_get rows number) refl h past;
 }
 
 -- a router outside of the graph is a goal without routers
@@ -207,13 +210,12 @@ lowest_past at own best new ws i d h lt far is =
     ∙ ap (λ (l : List ℕ). lowest (nearer_ports at own (take i ws) ++ l)) (sym one)
     ∙ ap lowest (sym (nearer-push at own (take i ws) w)) ∙ ap (λ (l : List Way). lowest (nearer_ports at own l)) (sym (take_more ws i d lt))
 
-
 -- a turn of a row, as the code makes it
 pub row_turn : (domains : List ℕ) (edges : List Edge) (goal : Goal) (n : ℕ) (row new levels seen : List (Option ℕ)) (ws : List Way) (own port : Option ℕ) → IsRowUpTo domains edges goal n row → AreDistances domains edges goal levels → seen ≡ levels → ws ≡ ways edges n → n < length levels → own ≡ get_or levels n own → port ≡ lowest (nearer_ports (level_at seen) own ws) → new ≡ row ++ port ∷ [] → IsRowUpTo domains edges goal (n + 1) new
 row_turn domains edges goal n row new levels seen ws own port h ds same is lt at found pushed =
     let own_is : own ≡ get_or levels n None = at ∙ get_or_default levels n own None lt in
     let by : lowest (nearer_ports (level_at seen) own ws) ≡ port_towards domains edges n goal =
-      ap (λ (xs : List (Option ℕ)). lowest (nearer_ports (level_at xs) own ws)) same ∙ ap (λ (o : Option ℕ). lowest (nearer_ports (level_at levels) o ws)) own_is ∙ port-by_levels domains edges goal levels n ws ds is in
+    ap (λ (xs : List (Option ℕ)). lowest (nearer_ports (level_at xs) own ws)) same ∙ ap (λ (o : Option ℕ). lowest (nearer_ports (level_at levels) o ws)) own_is ∙ port-by_levels domains edges goal levels n ws ds is in
     subst (λ (xs : List (Option ℕ)). IsRowUpTo domains edges goal (n + 1) xs) (sym pushed) (row_more domains edges goal n row port h (found ∙ by))
 
 -- what a test finds nowhere is not there

@@ -1,5 +1,5 @@
 -- Levels that no step changes are the least lengths of walks.
-use Rattle.std.proofs.Common.{◌≡◌, ℕ, suc, zero, ◌<◌, ◌≤◌, ◌+◌, ◌⊎◌, inl, inr, Bool, true, false, List, [], ◌∷◌, length, get_or, refl, sym, ◌∙◌, ap, subst, arith, Option, Some, None, All, Contains, IsTrue}
+use Rattle.std.proofs.Common.{◌≡◌, ℕ, suc, zero, ◌<◌, ◌≤◌, ◌+◌, inl, inr, Bool, true, false, List, [], ◌∷◌, length, get_or, refl, sym, ◌∙◌, ap, subst, arith, Option, Some, None, Contains}
 use Rattle.std.proofs.lemmas.Bool.{cases_eq, cases_lt}
 use Rattle.std.proofs.Common.{◌++◌, length-append, take}
 use Rattle.std.proofs.Math.Seq.{take-append_seam}
@@ -8,9 +8,9 @@ use Rattle.std.proofs.lemmas.Option.{slice_get-get_or, slice_get_past}
 use Rattle.domain_routes.specs.declared.Edge.{Edge}
 use Rattle.domain_routes.specs.declared.Way.{Way}
 use Rattle.domain_routes.specs.declared.Goal.{Goal}
-use Rattle.domain_routes.specs.Walks.{JoinsRouters, ways, takes_in, is_in_goal, has_walk, first_of_two, least_below, distance, IsLeastWalk, NoWalk, DistancesAreLeast}
+use Rattle.domain_routes.specs.Walks.{ways, takes_in, is_in_goal, has_walk, least_below, distance}
 use Rattle.domain_routes.specs.Levels.{level_at, level_if, unset, IsLevelZero, Spreads, StartsAtGoal, AreDistances}
-use Rattle.domain_routes.proofs.WayLemmas.{way_back, ways_inside, walk-first, walk-more, walk-zero}
+use Rattle.domain_routes.proofs.WayLemmas.{way_back, walk-first, walk-more, walk-zero}
 
 -- the levels up to one of them are right, and the routers below it have given the next level to their neighbours
 pub record IsSearched (domains : List ℕ) (edges : List Edge) (goal : Goal) (level : ℕ) (xs : List (Option ℕ)) : Type 0 where
@@ -56,8 +56,9 @@ least_below-none test (suc n) h =
 pub least_below-some : (test : ℕ → Bool) (limit n : ℕ) → n < limit → test n ≡ true → ((m : ℕ) → m < n → test m ≡ false) → least_below test limit ≡ Some n
 least_below-some test zero n lt t h = absurd (omega arith)
 least_below-some test (suc limit) n lt t h = elim (cases_eq n limit) [
-    inl q ↦ let a : least_below test limit ≡ None = least_below-none test limit (λ m l. h m (omega arith)) in let b : test limit ≡ true = ap test (sym q) ∙ t in rw (a, b) (ap Some (sym q))
-  | inr ne ↦ let a : least_below test limit ≡ Some n = least_below-some test limit n (omega arith) t h in rw a refl ]
+  | inl q ↦ let a : least_below test limit ≡ None = least_below-none test limit (λ m l. h m (omega arith)) in let b : test limit ≡ true = ap test (sym q) ∙ t in rw (a, b) (ap Some (sym q))
+  | inr ne ↦ let a : least_below test limit ≡ Some n = least_below-some test limit n (omega arith) t h in rw a refl
+]
 
 true_or_false : (b : Bool) → (b ≡ true → ⊥) → b ≡ false
 true_or_false true h = absurd (h refl)
@@ -91,49 +92,56 @@ settled_are_distances domains edges goal xs h =
       law = record {
         least = λ router n e. record {
           walk = settled_walk domains edges goal xs n router h (exact router ∙ e);
-          least = λ m t. let r : (k : ℕ) × (level_at xs router ≡ Some k) × (k ≤ m) = settled_least domains edges goal xs m router h t in let same : Some n ≡ Some r.0 = sym (exact router ∙ e) ∙ r.1 in let q : n ≡ r.0 = cc in let l : r.0 ≤ m = r.2 in omega arith
+          least = λ m t. let r : (k : ℕ) × (level_at xs router ≡ Some k) × (k ≤ m) = settled_least domains edges goal xs m router h t in let same : Some n ≡ Some r.0 = sym (exact router ∙ e) ∙ r.1 in let q : n ≡ r.0 = cc in let l : r.0 ≤ m = r.2 in omega arith;
         };
-        none = λ router e m t. let r : (k : ℕ) × (level_at xs router ≡ Some k) × (k ≤ m) = settled_least domains edges goal xs m router h t in let a : level_at xs router ≡ Some r.0 = r.1 in let b : level_at xs router ≡ None = exact router ∙ e in cc
-      }
+        none = λ router e m t. let r : (k : ℕ) × (level_at xs router ≡ Some k) × (k ≤ m) = settled_least domains edges goal xs m router h t in let a : level_at xs router ≡ Some r.0 = r.1 in let b : level_at xs router ≡ None = exact router ∙ e in cc;
+      };
     }
 
 -- a router with a level is in the list
 pub level_within : (xs : List (Option ℕ)) (router m : ℕ) → level_at xs router ≡ Some m → router < length xs
 level_within xs router m e = elim (cases_lt router (length xs)) [
-    inl lt ↦ lt
-  | inr past ↦ absurd (let a : level_at xs router ≡ None = get_or_past xs router None past in cc) ]
+  | inl lt ↦ lt
+  | inr past ↦ absurd (let a : level_at xs router ≡ None = get_or_past xs router None past in cc)
+]
 
 -- after the step at a level, the routers up to that level have given the next level to their neighbours
 searched_near : (domains : List ℕ) (edges : List Edge) (goal : Goal) (level : ℕ) (old new : List (Option ℕ)) → IsSearched domains edges goal level old → Spreads edges level (length old) old new → (router m : ℕ) (w : Way) → level_at new router ≡ Some m → m < suc level → Contains (ways edges router) w → (k : ℕ) × (level_at new w.neighbour ≡ Some k) × (k ≤ suc m)
 searched_near domains edges goal level old new h s router m w e lt c =
     let had : level_at old router ≡ Some m = elim (s.fresh router m e) [ inl p ↦ p | inr p ↦ absurd (let q : m ≡ suc level = p.0 in omega arith) ] in
     elim (cases_eq m level) [
-      inl q ↦
-        let at : level_at old router ≡ Some level = had ∙ ap Some q in
-        let r : (k : ℕ) × (level_at new w.neighbour ≡ Some k) = s.reached router w (level_within old router level at) at c in
-        (r.0, r.1, elim (s.fresh w.neighbour r.0 r.1) [
-            inl p ↦ let b : r.0 ≤ level = h.most w.neighbour r.0 p in omega arith
-          | inr p ↦ let b : r.0 ≡ suc level = p.0 in omega arith ])
-    | inr ne ↦
-        let r : (k : ℕ) × (level_at old w.neighbour ≡ Some k) × (k ≤ suc m) = h.near router m w had (omega arith) c in
-        (r.0, s.kept w.neighbour r.0 r.1, r.2) ]
+      | inl q ↦
+          let at : level_at old router ≡ Some level = had ∙ ap Some q in
+          let r : (k : ℕ) × (level_at new w.neighbour ≡ Some k) = s.reached router w (level_within old router level at) at c in (
+            r.0,
+            r.1,
+            elim (s.fresh w.neighbour r.0 r.1) [
+              | inl p ↦ let b : r.0 ≤ level = h.most w.neighbour r.0 p in omega arith
+              | inr p ↦ let b : r.0 ≡ suc level = p.0 in omega arith
+            ],
+          )
+      | inr ne ↦
+          let r : (k : ℕ) × (level_at old w.neighbour ≡ Some k) × (k ≤ suc m) = h.near router m w had (omega arith) c in
+          (r.0, s.kept w.neighbour r.0 r.1, r.2)
+    ]
 
 searched_step : (domains : List ℕ) (edges : List Edge) (goal : Goal) (level : ℕ) (old new : List (Option ℕ)) → IsSearched domains edges goal level old → Spreads edges level (length old) old new → (router m : ℕ) → level_at new router ≡ Some (suc m) → (w : Way) × Contains (ways edges router) w × (level_at new w.neighbour ≡ Some m)
 searched_step domains edges goal level old new h s router m e = elim (s.fresh router (suc m) e) [
-    inl p ↦ let r : (w : Way) × Contains (ways edges router) w × (level_at old w.neighbour ≡ Some m) = h.step router m p in (r.0, r.1, s.kept r.0.neighbour m r.2)
+  | inl p ↦ let r : (w : Way) × Contains (ways edges router) w × (level_at old w.neighbour ≡ Some m) = h.step router m p in (r.0, r.1, s.kept r.0.neighbour m r.2)
   | inr p ↦
       let near : ℕ = p.1.0 in
       let w : Way = p.1.1 in
       let b : (v : Way) × Contains (ways edges w.neighbour) v × (v.neighbour ≡ near) = way_back edges near w p.1.3 in
       let same : suc m ≡ suc level = p.0 in
       let m_is : m ≡ level = omega arith in
-      (b.0, subst (λ (n : ℕ). Contains (ways edges n) b.0) p.1.4 b.1, ap (level_at new) b.2 ∙ s.kept near level p.1.2 ∙ ap Some (sym m_is)) ]
+      (b.0, subst (λ (n : ℕ). Contains (ways edges n) b.0) p.1.4 b.1, ap (level_at new) b.2 ∙ s.kept near level p.1.2 ∙ ap Some (sym m_is))
+]
 
 searched_start : (domains : List ℕ) (edges : List Edge) (goal : Goal) (level : ℕ) (old new : List (Option ℕ)) → IsSearched domains edges goal level old → Spreads edges level (length old) old new → length new ≡ length old → StartsAtGoal domains goal new
 searched_start domains edges goal level old new h s len = record {
   count = len ∙ h.start.count;
   zero_in = λ router e. s.kept router 0 (h.start.zero_in router e);
-  in_zero = λ router e. elim (s.fresh router 0 e) [ inl p ↦ h.start.in_zero router p | inr p ↦ absurd (let q : 0 ≡ suc level = p.0 in omega arith) ]
+  in_zero = λ router e. elim (s.fresh router 0 e) [ inl p ↦ h.start.in_zero router p | inr p ↦ absurd (let q : 0 ≡ suc level = p.0 in omega arith) ];
 }
 
 -- the step to the next level
@@ -147,8 +155,9 @@ searched_next domains edges goal level old new h s len fewer =
       near = λ router m w e lt c. searched_near domains edges goal level old new h s router m w e lt c;
       room = omega arith;
       strict = λ router m e. elim (s.fresh router m e) [
-          inl p ↦ let q : level + unset old < length domains = h.strict router m p in omega arith
-        | inr p ↦ let q : level + unset old < length domains = h.strict p.1.0 level p.1.2 in omega arith ]
+        | inl p ↦ let q : level + unset old < length domains = h.strict router m p in omega arith
+        | inr p ↦ let q : level + unset old < length domains = h.strict p.1.0 level p.1.2 in omega arith
+      ];
     }
 
 -- where the step finds none, the levels are settled
@@ -162,7 +171,7 @@ searched_all domains edges goal level old new h s same = record {
   bound = λ router m e.
       let d : level_at old router ≡ Some m = ap (λ (xs : List (Option ℕ)). level_at xs router) (sym same) ∙ e in
       let q : m ≤ level = h.most router m d in
-      let r : level + unset old < length domains = h.strict router m d in omega arith
+      let r : level + unset old < length domains = h.strict router m d in omega arith;
 }
 
 unset_most : (xs : List (Option ℕ)) → unset xs ≤ length xs
@@ -184,7 +193,7 @@ searched_first domains edges goal xs start only = record {
   most = λ router m e. let q : m ≡ 0 = only router m e in omega arith;
   near = λ router m w e lt c. absurd (omega arith);
   room = let l : length xs ≡ length domains = start.count in omega (arith, unset_most xs);
-  strict = λ router m e. let l : length xs ≡ length domains = start.count in omega (arith, unset_fewer xs router m e)
+  strict = λ router m e. let l : length xs ≡ length domains = start.count in omega (arith, unset_fewer xs router m e);
 }
 
 -- level 0 as far as a router
@@ -199,18 +208,20 @@ pub zero_more : (domains : List ℕ) (goal : Goal) (n d : ℕ) (xs : List (Optio
 zero_more domains goal n d xs level h lt is = record {
   count = let c : length xs ≡ n = h.count in omega (arith, length-append xs (level ∷ []));
   each = λ router below. let c : length xs ≡ n = h.count in elim (cases_eq router n) [
-      inl q ↦ let a : get_or (xs ++ level ∷ []) (length xs) None ≡ level = get_or_push xs level None (length xs) refl in
+    | inl q ↦ let a : get_or (xs ++ level ∷ []) (length xs) None ≡ level = get_or_push xs level None (length xs) refl in
         ap (level_at (xs ++ level ∷ [])) (q ∙ sym c) ∙ a ∙ is ∙ ap (λ (o : Option ℕ). level_if (takes_in goal n o)) (sym (slice_get-get_or domains n d lt)) ∙ ap (λ (m : ℕ). level_if (is_in_goal domains goal m)) (sym q)
-    | inr ne ↦ let in' : router < length xs = omega arith in get_or_append_left xs (level ∷ []) None router in' ∙ h.each router (omega arith) ]
+    | inr ne ↦ let in' : router < length xs = omega arith in get_or_append_left xs (level ∷ []) None router in' ∙ h.each router (omega arith)
+  ];
 }
 
 pub zero_all : (domains : List ℕ) (goal : Goal) (n : ℕ) (xs : List (Option ℕ)) → IsZeroUpTo domains goal n xs → n ≡ length domains → IsLevelZero domains goal xs
 zero_all domains goal n xs h all = record {
   count = h.count ∙ all;
   each = λ router. elim (cases_lt router n) [
-      inl lt ↦ h.each router lt
+    | inl lt ↦ h.each router lt
     | inr past ↦ let c : length xs ≡ n = h.count in
-        get_or_past xs router None (omega arith) ∙ ap (λ (o : Option ℕ). level_if (takes_in goal router o)) (sym (slice_get_past domains router (omega arith))) ]
+        get_or_past xs router None (omega arith) ∙ ap (λ (o : Option ℕ). level_if (takes_in goal router o)) (sym (slice_get_past domains router (omega arith)))
+  ];
 }
 
 level_if_zero : (b : Bool) (m : ℕ) → level_if b ≡ Some m → (b ≡ true) × (m ≡ 0)
@@ -224,7 +235,7 @@ searched_zero domains edges goal xs h =
     (record {
       count = h.count;
       zero_in = λ router e. h.each router ∙ ap level_if e;
-      in_zero = λ router e. (level_if_zero (is_in_goal domains goal router) 0 (sym (h.each router) ∙ e)).0
+      in_zero = λ router e. (level_if_zero (is_in_goal domains goal router) 0 (sym (h.each router) ∙ e)).0;
     })
     (λ router m e. (level_if_zero (is_in_goal domains goal router) m (sym (h.each router) ∙ e)).1)
 

@@ -1,5 +1,5 @@
 -- On the search's step from one level to the next.
-use Rattle.std.proofs.Common.{◌≡◌, ℕ, suc, zero, ◌<◌, ◌≤◌, ◌+◌, ◌⊎◌, inl, inr, Bool, true, false, ◌||◌, List, [], ◌∷◌, ◌++◌, length, get_or, refl, sym, ◌∙◌, ap, subst, arith, Option, Some, None, Contains}
+use Rattle.std.proofs.Common.{◌≡◌, ℕ, suc, ◌<◌, ◌≤◌, ◌+◌, inl, inr, Bool, true, false, ◌||◌, List, length, get_or, refl, sym, ◌∙◌, ap, subst, arith, Option, Some, None, Contains}
 use Rattle.std.proofs.Common.{eqb}
 use Rattle.std.specs.Option.{option_eq}
 use Rattle.std.proofs.lemmas.Bool.{cases_eq, eqb-true, eqb-false}
@@ -23,8 +23,9 @@ spreads_turn edges level i j old xs new h js at more = record {
   kept = λ r k e. more.kept r k (h.kept r k e);
   fresh = λ r k e. elim (more.fresh r k e) [ inl p ↦ h.fresh r k p | inr p ↦ inr (p.0, (i, p.1.0, had_level edges level i i old xs h at, p.1.1, p.1.2)) ];
   reached = λ near w lt e c. elim (cases_eq near i) [
-      inl q ↦ more.reached w (subst (λ n. Contains (ways edges n) w) q c)
-    | inr ne ↦ let p : (k : ℕ) × (level_at xs w.neighbour ≡ Some k) = h.reached near w (omega arith) e c in (p.0, more.kept w.neighbour p.0 p.1) ]
+    | inl q ↦ more.reached w (subst (λ n. Contains (ways edges n) w) q c)
+    | inr ne ↦ let p : (k : ℕ) × (level_at xs w.neighbour ≡ Some k) = h.reached near w (omega arith) e c in (p.0, more.kept w.neighbour p.0 p.1)
+  ];
 }
 
 -- a router of another level is passed over
@@ -33,8 +34,9 @@ spreads_past edges level i j old xs h js not_at = record {
   kept = h.kept;
   fresh = h.fresh;
   reached = λ near w lt e c. elim (cases_eq near i) [
-      inl q ↦ absurd (not_at (ap (level_at xs) (sym q) ∙ h.kept near level e))
-    | inr ne ↦ h.reached near w (omega arith) e c ]
+    | inl q ↦ absurd (not_at (ap (level_at xs) (sym q) ∙ h.kept near level e))
+    | inr ne ↦ h.reached near w (omega arith) e c
+  ];
 }
 
 -- the step so far, up to a router
@@ -49,11 +51,11 @@ spread_at_start edges level xs = record {
   spreads = record {
     kept = λ r k e. e;
     fresh = λ r k e. inl e;
-    reached = λ near w lt e c. absurd (omega arith)
+    reached = λ near w lt e c. absurd (omega arith);
   };
   same = λ e. refl;
   less = λ e. cc;
-  at_most = omega arith
+  at_most = omega arith;
 }
 
 pub spread_past : (edges : List Edge) (level i j : ℕ) (old xs new : List (Option ℕ)) (f g : Bool) → IsSpread edges level i old xs f → j ≡ suc i → (level_at xs i ≡ Some level → ⊥) → new ≡ xs → g ≡ f → IsSpread edges level j old new g
@@ -61,7 +63,7 @@ spread_past edges level i j old xs new f g h js not_at is same = record {
   spreads = rw is (spreads_past edges level i j old xs h.spreads js not_at);
   same = λ e. is ∙ h.same (sym same ∙ e);
   less = λ e. rw is (h.less (sym same ∙ e));
-  at_most = rw is h.at_most
+  at_most = rw is h.at_most;
 }
 
 least_turn : (f more : Bool) (a b c : ℕ) → (f ≡ true → b < c) → b ≤ c → (more ≡ true → a < b) → (more ≡ false → a ≡ b) → (f || more) ≡ true → a < c
@@ -84,7 +86,7 @@ spread_turn edges level i j old xs new f more g h js at reaches same less is = r
   spreads = spreads_turn edges level i j old xs new h.spreads js at reaches;
   same = λ e. same_turn f more old xs new h.same same (sym is ∙ e);
   less = λ e. least_turn f more (unset new) (unset xs) (unset old) h.less h.at_most less (λ k. ap unset (same k)) (sym is ∙ e);
-  at_most = most_turn more (unset new) (unset xs) (unset old) h.at_most less (λ k. ap unset (same k))
+  at_most = most_turn more (unset new) (unset xs) (unset old) h.at_most less (λ k. ap unset (same k));
 }
 
 -- the ways out of a router of the graph, as they are kept

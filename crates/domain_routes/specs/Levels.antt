@@ -1,5 +1,5 @@
 -- The levels of a search from the goal outwards: a router's level is its distance, as far as the search has come.
-use Rattle.std.specs.Prelude.{◌≡◌, ℕ, zero, suc, ◌+◌, ◌<◌, ◌≤◌, Bool, true, false, ◌⊎◌, List, [], ◌∷◌, length, Option, Some, None, slice_index_or, if◌then◌else◌, Vec, Contains, slice_get}
+use Rattle.std.specs.Prelude.{◌≡◌, ℕ, suc, ◌<◌, Bool, true, ◌⊎◌, List, [], ◌∷◌, length, Option, Some, None, slice_index_or, if◌then◌else◌, Vec, Contains, slice_get}
 use Rattle.std.specs.declared.alloc.Global.{Global}
 use Rattle.domain_routes.specs.declared.Edge.{Edge}
 use Rattle.domain_routes.specs.declared.Way.{Way}

@@ -1,6 +1,5 @@
 -- What the table of routes holds, and the graph whose routes they are.
-use Rattle.std.specs.Prelude.{◌≡◌, ℕ, List, [], Vec, Option, Some, None, slice_get, slice_index_or}
-use Rattle.std.specs.declared.alloc.Global.{Global}
+use Rattle.std.specs.Prelude.{◌≡◌, ℕ, List, Option}
 use Rattle.domain_routes.specs.declared.Edge.{Edge}
 use Rattle.domain_routes.specs.declared.Goal.{Goal}
 use Rattle.domain_routes.specs.declared.Goal.TheVariants.{Domain, Router}

@@ -47,10 +47,8 @@ impl Graph {
     {
         let routers = self.domains.len();
         routers <= 256
-            && self
-                .edges
-                .iter()
-                .all(|edge| (edge.a as usize) < routers && (edge.b as usize) < routers)
+            && self.edges.iter().all(|edge| (edge.a as usize) < routers
+                && (edge.b as usize) < routers)
     }
 }
 
@@ -86,7 +84,10 @@ impl Routes {
         let ways = ways::all_ways(alloc, graph)?;
         let by_domain = rows::to_domains(alloc, graph, &ways)?;
         let by_router = rows::to_routers(alloc, graph, &ways)?;
-        Ok(Routes { by_domain, by_router })
+        Ok(Routes {
+            by_domain,
+            by_router,
+        })
     }
 
     /// The port of the router towards the goal: the lowest whose link is up and whose neighbour is one step nearer.

@@ -5,8 +5,7 @@ ghost use Rattle.domain_routes.specs.Walks.{JoinsRouters, is_one_less, lower_of,
 ghost use Rattle.domain_routes.specs.Levels.{AreWays, level_at};
 ghost use Rattle.domain_routes.specs.Rows.{AreRows, IsRow, entry_of};
 
-use crate::levels;
-use crate::{Goal, Graph, Way};
+use crate::{Goal, Graph, Way, levels};
 use std::alloc::{AllocError, Global};
 
 /// Whether the one distance is one less than the other.

@@ -1,4 +1,4 @@
-use Rattle.std.proofs.Common.{List, ℕ, sym, subst, refl, drop, length}
+use Rattle.std.proofs.Common.{List, ℕ, subst, drop, length}
 use Rattle.domain_routes.proofs.SearchLemmas.{searched_zero, search_turn, search_end}
 use Rattle.domain_routes.specs.Levels.{IsLevelZero}
 use Rattle.domain_routes.proofs.levels.distances.Goals as goal

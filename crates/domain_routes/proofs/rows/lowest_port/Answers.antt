@@ -1,4 +1,4 @@
-use Rattle.std.proofs.Common.{◌≡◌, ◌∙◌, sym, arith}
+use Rattle.std.proofs.Common.{◌∙◌, sym, arith}
 use Rattle.domain_routes.specs.declared.Way.{Way}
 use Rattle.domain_routes.specs.Levels.{level_at}
 use Rattle.domain_routes.proofs.RowLemmas.{lowest_on, lowest_past}
@@ -10,5 +10,6 @@ loop-way-preserved c =
     let d : Way = record { port = 0; neighbour = 0 } in
     let at = level_at c.args.distances.now in
     elim c.if-is_one_less.branch [
-      then-is_one_less w ↦ lowest_on at c.args.own c.loop-way.lowest c.if-is_one_less.lowest c.args.ways.now c.loop-way.way-index d c.loop-way.invariant (omega arith) (sym c.is_one_less.ensures ∙ w.if-is_one_less.true) (w.lowest-is ∙ w.lower-lowest.ensures)
-    | else-is_one_less w ↦ lowest_past at c.args.own c.loop-way.lowest c.if-is_one_less.lowest c.args.ways.now c.loop-way.way-index d c.loop-way.invariant (omega arith) (sym c.is_one_less.ensures ∙ w.if-is_one_less.false) w.lowest-is ]
+      | then-is_one_less w ↦ lowest_on at c.args.own c.loop-way.lowest c.if-is_one_less.lowest c.args.ways.now c.loop-way.way-index d c.loop-way.invariant (omega arith) (sym c.is_one_less.ensures ∙ w.if-is_one_less.true) (w.lowest-is ∙ w.lower-lowest.ensures)
+      | else-is_one_less w ↦ lowest_past at c.args.own c.loop-way.lowest c.if-is_one_less.lowest c.args.ways.now c.loop-way.way-index d c.loop-way.invariant (omega arith) (sym c.is_one_less.ensures ∙ w.if-is_one_less.false) w.lowest-is
+    ]

@@ -1,4 +1,4 @@
-use Rattle.std.proofs.Common.{◌≡◌, ◌<◌, ◌∙◌, ap, sym, refl, arith, length}
+use Rattle.std.proofs.Common.{◌∙◌, ap, arith, length}
 use Rattle.domain_routes.proofs.SpreadLemmas.{row_is, row_inside}
 use Rattle.domain_routes.proofs.RowLemmas.{row_turn, row_all}
 use Rattle.domain_routes.proofs.rows.row.Goals as goal
