@@ -76,7 +76,8 @@ pub(crate) fn distances(
     requires routers { length graph.now.domains.items ≤ 256 }
     requires edges { All (JoinsRouters graph.now.domains.items) graph.now.edges.items }
     requires ways { AreWays graph.now.domains.items graph.now.edges.items ways.now }
-    ensures { IfOk result (λ found. AreDistances graph.now.domains.items graph.now.edges.items goal found.items) }
+    ensures { IfOk result (λ found.
+        AreDistances graph.now.domains.items graph.now.edges.items goal found.items) }
 {
     let mut levels = level_zero(alloc, &graph.domains, goal)?;
     let mut level = 0;

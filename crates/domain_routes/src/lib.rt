@@ -4,7 +4,8 @@
 
 ghost use Rattle.std.specs.Prelude.{◌≡◌, ◌↔◌, ℕ, List, IfOk, IfSome, IsNone, IsTrue};
 ghost use Rattle.domain_routes.specs.declared.Edge.{Edge as Link};
-ghost use Rattle.domain_routes.specs.Walks.{IsSound, port_towards, DistancesAreLeast, IsLowestStep, HasNoStep};
+ghost use Rattle.domain_routes.specs.Walks.{IsSound, port_towards, DistancesAreLeast};
+ghost use Rattle.domain_routes.specs.Walks.{IsLowestStep, HasNoStep};
 ghost use Rattle.domain_routes.specs.Table.{port_of, IsRoutesOf};
 
 use std::alloc::{AllocError, Global};
@@ -55,7 +56,9 @@ impl Graph {
 /// Where a walk is to end: at any router of a domain, or at one router.
 #[derive(Clone, Copy, PartialEq, Eq, Debug)]
 pub enum Goal {
+    /// Any router of the domain with this number.
     Domain(u16),
+    /// The router at this position of the graph.
     Router(u16),
 }
 
@@ -79,7 +82,8 @@ impl Routes {
     /// The routes of a graph of at most 256 routers. The only error is that memory runs out.
     pub fn compute(alloc: Global, graph: &Graph) -> Result<Routes, AllocError>
         requires { IsSound graph.now.domains.items graph.now.edges.items }
-        ensures { IfOk result (λ routes. IsRoutesOf routes graph.now.domains.items graph.now.edges.items) }
+        ensures { IfOk result (λ routes.
+            IsRoutesOf routes graph.now.domains.items graph.now.edges.items) }
     {
         let ways = ways::all_ways(alloc, graph)?;
         let by_domain = rows::to_domains(alloc, graph, &ways)?;
@@ -96,10 +100,14 @@ impl Routes {
         ensures held { result ≡ port_of self.now router goal }
 
         // For the graph whose routes these are: the port, and what that means.
-        ensures towards { (domains : List ℕ) (edges : List Link) → IsRoutesOf self.now domains edges → result ≡ port_towards domains edges router goal }
-        ensures lowest { (domains : List ℕ) (edges : List Link) → IsRoutesOf self.now domains edges → IfSome result (IsLowestStep domains edges goal router) }
-        ensures none { (domains : List ℕ) (edges : List Link) → IsRoutesOf self.now domains edges → (IsNone result ↔ HasNoStep domains edges goal router) }
-        ensures least { (domains : List ℕ) (edges : List Link) → IsRoutesOf self.now domains edges → DistancesAreLeast domains edges goal }
+        ensures towards { (domains : List ℕ) (edges : List Link) → IsRoutesOf self.now domains edges
+            → result ≡ port_towards domains edges router goal }
+        ensures lowest { (domains : List ℕ) (edges : List Link) → IsRoutesOf self.now domains edges
+            → IfSome result (IsLowestStep domains edges goal router) }
+        ensures none { (domains : List ℕ) (edges : List Link) → IsRoutesOf self.now domains edges
+            → (IsNone result ↔ HasNoStep domains edges goal router) }
+        ensures least { (domains : List ℕ) (edges : List Link) → IsRoutesOf self.now domains edges
+            → DistancesAreLeast domains edges goal }
     {
         match goal {
             Goal::Domain(domain) => rows::entry(&self.by_domain, domain, router),

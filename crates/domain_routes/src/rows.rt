@@ -52,7 +52,8 @@ fn row(
     requires routers { length graph.now.domains.items ≤ 256 }
     requires edges { All (JoinsRouters graph.now.domains.items) graph.now.edges.items }
     requires ways { AreWays graph.now.domains.items graph.now.edges.items ways.now }
-    ensures { IfOk result (λ ports. IsRow graph.now.domains.items graph.now.edges.items goal ports.items) }
+    ensures { IfOk result (λ ports.
+        IsRow graph.now.domains.items graph.now.edges.items goal ports.items) }
 {
     let distances = levels::distances(alloc, graph, ways, goal)?;
     let mut ports = Vec::new(alloc);
@@ -72,7 +73,8 @@ fn domain_row(
     requires routers { length graph.now.domains.items ≤ 256 }
     requires edges { All (JoinsRouters graph.now.domains.items) graph.now.edges.items }
     requires ways { AreWays graph.now.domains.items graph.now.edges.items ways.now }
-    ensures { IfOk result (λ ports. IsRow graph.now.domains.items graph.now.edges.items (Goal.Domain domain) ports.items) }
+    ensures { IfOk result (λ ports.
+        IsRow graph.now.domains.items graph.now.edges.items (Goal.Domain domain) ports.items) }
 {
     if !graph.domains.as_slice().contains(&domain) {
         return Ok(Vec::new(alloc));
@@ -104,7 +106,8 @@ pub(crate) fn to_domains(
     requires routers { length graph.now.domains.items ≤ 256 }
     requires edges { All (JoinsRouters graph.now.domains.items) graph.now.edges.items }
     requires ways { AreWays graph.now.domains.items graph.now.edges.items ways.now }
-    ensures { IfOk result (λ rows. AreRows graph.now.domains.items graph.now.edges.items (λ d. Goal.Domain d) rows.items) }
+    ensures { IfOk result (λ rows.
+        AreRows graph.now.domains.items graph.now.edges.items (λ d. Goal.Domain d) rows.items) }
 {
     let mut rows = Vec::new(alloc);
     for domain in 0..domain_limit(&graph.domains) {
@@ -122,7 +125,8 @@ pub(crate) fn to_routers(
     requires routers { length graph.now.domains.items ≤ 256 }
     requires edges { All (JoinsRouters graph.now.domains.items) graph.now.edges.items }
     requires ways { AreWays graph.now.domains.items graph.now.edges.items ways.now }
-    ensures { IfOk result (λ rows. AreRows graph.now.domains.items graph.now.edges.items (λ r. Goal.Router r) rows.items) }
+    ensures { IfOk result (λ rows.
+        AreRows graph.now.domains.items graph.now.edges.items (λ r. Goal.Router r) rows.items) }
 {
     let mut rows = Vec::new(alloc);
     for target in 0..graph.domains.len() {
