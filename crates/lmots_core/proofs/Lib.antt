@@ -1,0 +1,5 @@
+pub mod Blocks
+pub mod Steps
+pub mod Sizes
+pub mod Joined
+pub mod Accepted
