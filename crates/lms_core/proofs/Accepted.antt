@@ -46,15 +46,15 @@ parent_is key level r =
           let left : r - 1 ≡ 2 * (r / 2) = omega arith in
           let right : r ≡ 2 * (r / 2) + 1 = omega arith in
           rw one
-            (ap (λ n. inner_node id (r / 2) (node_of key level n) (node_of key level r)) left
-            ∙ ap (λ n. inner_node id (r / 2) (node_of key level (2 * (r / 2))) (node_of key level n)) right)
+          (ap (λ n. inner_node id (r / 2) (node_of key level n) (node_of key level r)) left
+          ∙ ap (λ n. inner_node id (r / 2) (node_of key level (2 * (r / 2))) (node_of key level n)) right)
       | inr even ↦
           let none : r % 2 ≡ 0 = omega arith in
           let left : r ≡ 2 * (r / 2) = omega arith in
           let right : r + 1 ≡ 2 * (r / 2) + 1 = omega arith in
           rw none
-            (ap (λ n. inner_node id (r / 2) (node_of key level n) (node_of key level (r + 1))) left
-            ∙ ap (λ n. inner_node id (r / 2) (node_of key level (2 * (r / 2))) (node_of key level n)) right)
+          (ap (λ n. inner_node id (r / 2) (node_of key level n) (node_of key level (r + 1))) left
+          ∙ ap (λ n. inner_node id (r / 2) (node_of key level (2 * (r / 2))) (node_of key level n)) right)
     ]
 
 -- the path of a node leads to the root
@@ -77,7 +77,7 @@ root_reached key (suc n) level r low high =
     let front = take_at sibling rest 32 (length-node_of key level (sibling_of r)) in
     let back = drop_at sibling rest 32 (length-node_of key level (sibling_of r)) in
     let up : parent_node id r (node_of key level r) (node_of key level (sibling_of r)) ≡ node_of key (level + 1) (r / 2) =
-        parent_is key level r ∙ ap (λ m. node_of key m (r / 2)) (sym (add-one level)) in
+    parent_is key level r ∙ ap (λ m. node_of key m (r / 2)) (sym (add-one level)) in
     let whole : level + 1 + n ≡ level + suc n = omega arith in
     ap (λ x. root_along id (r / 2) (parent_node id r (node_of key level r) x) n (drop 32 (sibling ++ rest))) front
     ∙ ap (λ x. root_along id (r / 2) (parent_node id r (node_of key level r) sibling) n x) back
@@ -111,7 +111,7 @@ length-public_key_of key =
     let id_len = length-identifier_of key.seed in
     let root_len = length-root_of key in
     let tail : length (identifier_of key.seed ++ root_of key) ≡ 48 =
-        omega (arith, length-append (identifier_of key.seed) (root_of key)) in
+    omega (arith, length-append (identifier_of key.seed) (root_of key)) in
     omega arith
 
 identifier_found : (key : Key) → identifier_in (public_key_of key) ≡ identifier_of key.seed
@@ -131,11 +131,11 @@ length-one_time width seed id q message =
     let hash = message_hash id q (randomizer_of seed id q) message in
     let parts = joined (signed_part width seed id q hash) (chains_of width) in
     let parts_len : length parts ≡ 32 * chains_of width =
-        length-joined (signed_part width seed id q hash) (chains_of width) (length-signed_part width seed id q hash) in
+    length-joined (signed_part width seed id q hash) (chains_of width) (length-signed_part width seed id q hash) in
     let randomizer_len : length (randomizer_of seed id q) ≡ 32 = length-sha256 _ in
     let sizes : 36 + 32 * chains_of width ≡ parameters.signature_len_of width = parts_whole width in
     let tail : length (randomizer_of seed id q ++ parts) ≡ 32 + 32 * chains_of width =
-        omega (arith, length-append (randomizer_of seed id q) parts) in
+    omega (arith, length-append (randomizer_of seed id q) parts) in
     omega arith
 
 length-path_from : (key : Key) (level r n : ℕ) → length (path_from key level r n) ≡ 32 * n
@@ -154,7 +154,7 @@ parts_of q ots code path = to_be_bytes w32 q ++ ots ++ to_be_bytes w32 code ++ p
 length-parts_of : (q : ℕ) (ots : List ℕ) (code : ℕ) (path : List ℕ) → length (parts_of q ots code path) ≡ 8 + length ots + length path
 length-parts_of q ots code path =
     let tail : length (ots ++ to_be_bytes w32 code ++ path) ≡ 4 + length ots + length path =
-        omega (arith, length-append (ots ++ to_be_bytes w32 code) path, length-append ots (to_be_bytes w32 code)) in
+    omega (arith, length-append (ots ++ to_be_bytes w32 code) path, length-append ots (to_be_bytes w32 code)) in
     omega arith
 
 one_time_found : (width : Width) (q : ℕ) (ots : List ℕ) (code : ℕ) (path : List ℕ) → length ots ≡ parameters.signature_len_of width
@@ -168,7 +168,7 @@ path_found : (width : Width) (q : ℕ) (ots : List ℕ) (code : ℕ) (path : Lis
 path_found width q ots code path whole =
     let front = to_be_bytes w32 q ++ ots ++ to_be_bytes w32 code in
     let front_len : length (to_be_bytes w32 q ++ ots ++ to_be_bytes w32 code) ≡ 8 + parameters.signature_len_of width =
-        omega (arith, length-append ots (to_be_bytes w32 code)) in
+    omega (arith, length-append ots (to_be_bytes w32 code)) in
     drop_at front path (8 + parameters.signature_len_of width) front_len
 
 code_found : (width : Width) (q : ℕ) (ots : List ℕ) (code : ℕ) (path : List ℕ) → length ots ≡ parameters.signature_len_of width
@@ -177,9 +177,9 @@ code_found width q ots code path whole small =
     let front = to_be_bytes w32 q ++ ots in
     let front_len : length (to_be_bytes w32 q ++ ots) ≡ 4 + parameters.signature_len_of width = omega arith in
     ap (λ bytes. from_be_bytes w32 (take 4 (drop (4 + parameters.signature_len_of width) bytes)))
-        (append_assoc front (to_be_bytes w32 code) path)
+    (append_assoc front (to_be_bytes w32 code) path)
     ∙ ap (λ bytes. from_be_bytes w32 (take 4 bytes))
-        (drop_at front (to_be_bytes w32 code ++ path) (4 + parameters.signature_len_of width) front_len)
+    (drop_at front (to_be_bytes w32 code ++ path) (4 + parameters.signature_len_of width) front_len)
     ∙ from_be_bytes-to_be_bytes_4 code small
 
 leaf_found : (q : ℕ) (ots : List ℕ) (code : ℕ) (path : List ℕ) → q < 2 ^ 32 → leaf_in (parts_of q ots code path) ≡ q
@@ -198,7 +198,7 @@ height_code_small H10 = omega arith
 -- the one-time key of a leaf leads along the leaf's path to the root
 key_reaches_root : (key : Key) (q : ℕ) → q < leaves_of key.height
     → root_from key.height (identifier_of key.seed) q (path_of key q)
-        (Some (public_of key.width key.seed (identifier_of key.seed) q))
+    (Some (public_of key.width key.seed (identifier_of key.seed) q))
     ≡ Some (root_of key)
 unfolding node_of
 key_reaches_root key q below =
@@ -207,7 +207,7 @@ key_reaches_root key q below =
     let r = leaves_of key.height + q in
     let place : q ≡ leaves_of key.height + q - leaves_of key.height = omega arith in
     let leaf : leaf_node id r (public_of key.width key.seed id q) ≡ node_of key 0 r =
-        ap (λ n. leaf_node id r (public_of key.width key.seed id n)) place in
+    ap (λ n. leaf_node id r (public_of key.width key.seed id n)) place in
     let double : 2 ^ (levels_of key.height + 1) ≡ 2 * 2 ^ levels_of key.height = pow_more (levels_of key.height) in
     let low : 2 ^ levels_of key.height ≤ leaves_of key.height + q = omega arith in
     let high : leaves_of key.height + q < 2 ^ (levels_of key.height + 1) = omega arith in
@@ -226,11 +226,11 @@ root_is key q message below =
     let whole = length-one_time key.width key.seed id q message in
     let root = root_from key.height id in
     ap (λ n. root n (path_in key.width signature) (candidate_of id n message (one_time_in key.width signature)))
-        (leaf_found q ots code (path_of key q) (leaf_small key.height q below))
+    (leaf_found q ots code (path_of key q) (leaf_small key.height q below))
     ∙ ap (λ path. root q path (candidate_of id q message (one_time_in key.width signature)))
-        (path_found key.width q ots code (path_of key q) whole)
+    (path_found key.width q ots code (path_of key q) whole)
     ∙ ap (λ part. root q (path_of key q) (candidate_of id q message part))
-        (one_time_found key.width q ots code (path_of key q) whole)
+    (one_time_found key.width q ots code (path_of key q) whole)
     ∙ ap (root q (path_of key q)) (accepted key.width key.seed id q message)
     ∙ key_reaches_root key q below
 
@@ -258,22 +258,22 @@ formed_is key q message below =
     let code = height_code_of key.height in
     let path = path_of key q in
     let whole : length (one_time.signature_of key.width key.seed (identifier_of key.seed) q message) ≡ parameters.signature_len_of key.width =
-        length-one_time key.width key.seed (identifier_of key.seed) q message in
+    length-one_time key.width key.seed (identifier_of key.seed) q message in
     let path_len : length (path_of key q) ≡ 32 * levels_of key.height =
-        length-path_from key 0 (leaves_of key.height + q) (levels_of key.height) in
+    length-path_from key 0 (leaves_of key.height + q) (levels_of key.height) in
     let found : leaf_in (signature_of key q message) ≡ q = leaf_found q ots code path (leaf_small key.height q below) in
     let leaf : leaf_in (signature_of key q message) < leaves_of key.height = rw found below in
     let len : length (signature_of key q message) ≡ signature_len_of key.width key.height =
-        omega (arith, length-parts_of q ots code path) in
+    omega (arith, length-parts_of q ots code path) in
     formed_by key.width key.height (signature_of key q message) len (width_code_found key.width)
-        (code_found key.width q ots code path whole (height_code_small key.height)) leaf
+    (code_found key.width q ots code path whole (height_code_small key.height)) leaf
 
 -- whether a signature is valid under a public key whose parameter sets are known
 valid_under : (key message signature : List ℕ) (width : Width) (height : Height) → length key ≡ 56
     → width_in key ≡ Some width → height_in key ≡ Some height
     → is_valid_signature key message signature
     ≡ (is_formed width height signature
-        && is_root_in key (candidate_root width height (identifier_in key) message signature))
+    && is_root_in key (candidate_root width height (identifier_in key) message signature))
 valid_under key message signature width height whole is_width is_height =
     let same = eq-eqb _ _ whole in rw (same, is_width, is_height)
 
@@ -284,11 +284,11 @@ valid_signature key q message signature below is =
     let public = public_key_of key in
     let signed = signature_of key q message in
     let same : is_valid_signature public message signed ≡ true =
-        valid_under public message signed key.width key.height (length-public_key_of key) (width_known key.width)
-            (height_known key.height)
-        ∙ ap (λ b. b && is_root_in public (candidate_root key.width key.height (identifier_in public) message signed))
-            (formed_is key q message below)
-        ∙ ap (λ id. is_root_in public (candidate_root key.width key.height id message signed)) (identifier_found key)
-        ∙ ap (is_root_in public) (root_is key q message below)
-        ∙ (bytes_eq-Decides (root_of key) (root_in public)).1 (sym (root_found key)) in
+    valid_under public message signed key.width key.height (length-public_key_of key) (width_known key.width)
+    (height_known key.height)
+    ∙ ap (λ b. b && is_root_in public (candidate_root key.width key.height (identifier_in public) message signed))
+    (formed_is key q message below)
+    ∙ ap (λ id. is_root_in public (candidate_root key.width key.height id message signed)) (identifier_found key)
+    ∙ ap (is_root_in public) (root_is key q message below)
+    ∙ (bytes_eq-Decides (root_of key) (root_in public)).1 (sym (root_found key)) in
     rw is same

@@ -19,7 +19,7 @@ root_along_more id node above path r levels level width below whole is =
     let more : levels - level ≡ suc (levels - (level + 1)) = omega arith in
     let place : 32 * level + 32 ≡ 32 * (level + 1) = omega arith in
     let rest : drop 32 (drop (32 * level) path) ≡ drop (32 * (level + 1)) path =
-        drop-drop 32 (32 * level) path ∙ ap (λ n. drop n path) place in
+    drop-drop 32 (32 * level) path ∙ ap (λ n. drop n path) place in
     rw (is, whole, more, ← rest)
 
 -- at the root nothing of the path is left
@@ -105,7 +105,7 @@ path_more key before after node level r below low high is written =
     let place : 32 * (level + 1) ≡ 32 * level + 32 = omega arith in
     let node_is : node ≡ node_of key level (sibling_of r) = sibling_at key node level r below low high is in
     let front : take (32 * (level + 1)) after ≡ take (32 * level) before ++ node_of key level (sibling_of r) =
-        ap (λ n. take n after) place ∙ written ∙ ap (λ x. take (32 * level) before ++ x) node_is in
+    ap (λ n. take n after) place ∙ written ∙ ap (λ x. take (32 * level) before ++ x) node_is in
     rw more (ap (λ xs. xs ++ rest) front ∙ append_assoc (take (32 * level) before) (node_of key level (sibling_of r)) rest)
 
 -- above the last level no node is left

@@ -42,9 +42,9 @@ inner_at key nodes r some inside table depth (suc level) whole low high =
     let first : 2 ^ (depth + 1) ≡ 2 * 2 ^ depth = pow_more depth in
     let last : 2 ^ ((depth + 1) + 1) ≡ 2 * 2 ^ (depth + 1) = pow_more (depth + 1) in
     let left : get_or nodes (2 * r) [] ≡ node_of key level (2 * r) =
-        table.known (2 * r) (omega arith) (depth + 1) level deeper (omega arith) (omega arith) in
+    table.known (2 * r) (omega arith) (depth + 1) level deeper (omega arith) (omega arith) in
     let right : get_or nodes (2 * r + 1) [] ≡ node_of key level (2 * r + 1) =
-        table.known (2 * r + 1) (omega arith) (depth + 1) level deeper (omega arith) (omega arith) in
+    table.known (2 * r + 1) (omega arith) (depth + 1) level deeper (omega arith) (omega arith) in
     ap (λ node. inner_node (identifier_of key.seed) r node (get_or nodes (2 * r + 1) [])) left
     ∙ ap (λ node. inner_node (identifier_of key.seed) r (node_of key level (2 * r)) node) right
 
@@ -62,7 +62,7 @@ inner_is key nodes r id left right node some inside table same is_left is_right 
 leaf_at : (key : Key) (r : ℕ) → leaves_of key.height ≤ r
     → (depth level : ℕ) → depth + level ≡ levels_of key.height → 2 ^ depth ≤ r → r < 2 ^ (depth + 1)
     → leaf_node (identifier_of key.seed) r
-        (one_time.public_of key.width key.seed (identifier_of key.seed) (r - leaves_of key.height)) ≡ node_of key level r
+    (one_time.public_of key.width key.seed (identifier_of key.seed) (r - leaves_of key.height)) ≡ node_of key level r
 unfolding node_of
 leaf_at key r leaf depth zero whole low high = refl
 leaf_at key r leaf depth (suc level) whole low high =
@@ -84,10 +84,10 @@ pub nodes_none : (key : Key) (nodes : List (List ℕ)) (first : ℕ) → length 
 nodes_none key nodes first room end = record {
   whole = room;
   known = λ r past depth level whole low high.
-    let deep : depth + 1 ≤ levels_of key.height + 1 = omega arith in
-    let grows : 2 ^ (depth + 1) ≤ 2 ^ (levels_of key.height + 1) = pow_mono deep in
-    let leaves : 2 ^ (levels_of key.height + 1) ≡ 2 * leaves_of key.height = pow_more (levels_of key.height) in
-    absurd (omega arith);
+      let deep : depth + 1 ≤ levels_of key.height + 1 = omega arith in
+      let grows : 2 ^ (depth + 1) ≤ 2 ^ (levels_of key.height + 1) = pow_mono deep in
+      let leaves : 2 ^ (levels_of key.height + 1) ≡ 2 * leaves_of key.height = pow_more (levels_of key.height) in
+      absurd (omega arith);
 }
 
 -- one node more is in the table

@@ -14,5 +14,7 @@ pub use validity::verify;
 mod height;
 mod nodes;
 mod public_key;
+#[cfg(test)]
+mod tests;
 mod tree;
 mod validity;

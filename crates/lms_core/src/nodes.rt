@@ -8,6 +8,7 @@ use sha2::{Digest, Sha256};
 
 // What tells the hash of a leaf from that of an inner node (RFC 8554, section 5.1).
 const D_LEAF: u16 = 0x8282;
+
 const D_INTR: u16 = 0x8383;
 
 // The node `r` of a leaf with this one-time key.
@@ -55,7 +56,13 @@ fn parent_node(id: &[u8; 16], r: u32, node: &[u8; 32], sibling: &[u8]) -> [u8; 3
 }
 
 // The node that stands `levels` above the node `r`, along the path.
-pub(crate) fn root_along(id: &[u8; 16], r: u32, leaf: &[u8; 32], levels: usize, path: &[u8]) -> [u8; 32]
+pub(crate) fn root_along(
+    id: &[u8; 16],
+    r: u32,
+    leaf: &[u8; 32],
+    levels: usize,
+    path: &[u8],
+) -> [u8; 32]
     requires { length path.now ≡ 32 * levels }
     ensures { result ≡ root_along id.now r leaf.now levels path.now }
 {

@@ -16,8 +16,11 @@ use std::marker::Model;
 
 // Where the fields of a public key begin.
 const PLACE_OF_HEIGHT: usize = 0;
+
 const PLACE_OF_WIDTH: usize = 4;
+
 const PLACE_OF_ID: usize = 8;
+
 const PLACE_OF_ROOT: usize = 24;
 
 const KEY_LEN: usize = 56;
@@ -65,9 +68,7 @@ impl PublicKey {
 
     // The public key with these fields.
     pub(crate) fn with(width: Width, height: Height, id: &[u8; 16], root: &[u8; 32]) -> PublicKey
-        ensures {
-            result ≡ to_be_bytes w32 (height_code_of height) ++ to_be_bytes w32 (code_of width) ++ id.now ++ root.now
-        }
+        ensures { result ≡ to_be_bytes w32 (height_code_of height) ++ to_be_bytes w32 (code_of width) ++ id.now ++ root.now }
     {
         let mut bytes = [0; 56];
         let (code, rest) = bytes.split_at_mut(4);

@@ -36,7 +36,12 @@ impl Model for Tree {
 
 impl Tree {
     /// The tree of the key that is made from a seed: computes every one-time key, and keeps 2^(h+1) nodes of 32 bytes.
-    pub fn build(alloc: Global, seed: &[u8; 32], width: Width, height: Height) -> Result<Tree, AllocError>
+    pub fn build(
+        alloc: Global,
+        seed: &[u8; 32],
+        width: Width,
+        height: Height,
+    ) -> Result<Tree, AllocError>
         ensures { IfOk result (λ tree. tree ≡ key_from seed.now width height) }
     {
         let id = key_id(seed);

@@ -11,6 +11,7 @@ use lmots_core::Width;
 
 // Where the fields of a signature begin.
 const PLACE_OF_LEAF: usize = 0;
+
 const PLACE_OF_ONE_TIME: usize = 4;
 
 /// Whether `signature` is a valid signature of `message` under `key` (RFC 8554, section 5.4.2, algorithm 6): it has the
@@ -41,7 +42,13 @@ fn is_formed(width: Width, height: Height, signature: &[u8]) -> bool
 }
 
 // The root that a signature leads to.
-fn candidate_root(width: Width, height: Height, id: &[u8; 16], message: &[u8], signature: &[u8]) -> Option<[u8; 32]>
+fn candidate_root(
+    width: Width,
+    height: Height,
+    id: &[u8; 16],
+    message: &[u8],
+    signature: &[u8],
+) -> Option<[u8; 32]>
     requires whole { length signature.now ≡ signature_len_of width height }
     requires leaf { leaf_in signature.now < leaves_of height }
     ensures { result ≡ candidate_root width height id.now message.now signature.now }

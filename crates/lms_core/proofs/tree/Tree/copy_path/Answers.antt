@@ -29,8 +29,8 @@ levels-preserved c =
       low = inside.0;
       high = inside.1;
       written =
-        path_more key _ _ _ _ c.levels.r below c.levels.invariant.low c.levels.invariant.high is c.put.ensures
-        ∙ c.levels.invariant.written;
+          path_more key _ _ _ _ c.levels.r below c.levels.invariant.low c.levels.invariant.high is c.put.ensures
+          ∙ c.levels.invariant.written;
     }
 
 pub returns : goal.returns

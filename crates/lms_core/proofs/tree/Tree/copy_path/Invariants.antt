@@ -9,6 +9,6 @@ invariant-levels l = record {
   low : 2 ^ (levels_of l.self.height - l.level) ≤ l.r;
   high : l.r < 2 ^ (levels_of l.self.height - l.level + 1);
   written :
-    take (32 * l.level) l.path ++ path_from l.self l.level l.r (levels_of l.self.height - l.level)
-    ≡ path_of l.self l.q;
+      take (32 * l.level) l.path ++ path_from l.self l.level l.r (levels_of l.self.height - l.level)
+      ≡ path_of l.self l.q;
 }
