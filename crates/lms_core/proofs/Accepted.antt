@@ -1,11 +1,9 @@
 -- Each signature is valid under its public key.
-use Rattle.std.proofs.Common.{◌≡◌, ℕ, zero, suc, ◌+◌, ◌-◌, ◌*◌, ◌/◌, ◌%◌, ◌^◌, ◌<◌, ◌≤◌, ◌==◌, ◌∙◌, ◌&&◌, inl, inr, Bool, true, false, IsTrue, Option, None, Some, List, [], ◌∷◌, ◌++◌, length, take, drop, nat_lt, refl, sym, ap, subst, append_assoc, add-one, arith, length-append}
+use Rattle.std.proofs.Common.{◌≡◌, ℕ, zero, suc, ◌+◌, ◌-◌, ◌*◌, ◌/◌, ◌%◌, ◌^◌, ◌<◌, ◌≤◌, ◌∙◌, ◌&&◌, inl, inr, true, Some, List, ◌++◌, length, take, drop, refl, sym, ap, append_assoc, add-one, arith, length-append}
 use Rattle.std.specs.Int.{w32, to_be_bytes, from_be_bytes}
 use Rattle.std.specs.Prelude.{codes}
-use Rattle.std.specs.Str.{bytes_eq}
 use Rattle.sha2.specs.Sha256.{sha256}
 use Rattle.std.proofs.lemmas.Bool.{cases_lt, eq-eqb, lt-ltb}
-use Rattle.std.proofs.lemmas.Bool.Decides.{nat_tests}
 use Rattle.std.proofs.lemmas.List.{drop_at, take_at, take_all, length-take-le}
 use Rattle.std.proofs.lemmas.Nat.{from_be_bytes-to_be_bytes_4}
 use Rattle.std.proofs.lemmas.Slice.Eq.{bytes_eq-Decides}
@@ -97,7 +95,7 @@ width_known W2 = refl
 width_known W4 = refl
 width_known W8 = refl
 
-length-identifier_of : (seed : List ℕ) → length (identifier_of seed) ≡ 16
+pub length-identifier_of : (seed : List ℕ) → length (identifier_of seed) ≡ 16
 length-identifier_of seed =
     let hash = sha256 (codes "aip-I" ++ seed) in
     let whole : length (sha256 (codes "aip-I" ++ seed)) ≡ 32 = length-sha256 _ in
@@ -106,7 +104,7 @@ length-identifier_of seed =
 length-root_of : (key : Key) → length (root_of key) ≡ 32
 length-root_of key = length-node_of key (levels_of key.height) 1
 
-length-public_key_of : (key : Key) → length (public_key_of key) ≡ 56
+pub length-public_key_of : (key : Key) → length (public_key_of key) ≡ 56
 length-public_key_of key =
     let id_len = length-identifier_of key.seed in
     let root_len = length-root_of key in
@@ -250,6 +248,17 @@ width_code_found W2 = refl
 width_code_found W4 = refl
 width_code_found W8 = refl
 
+-- a signature has the length of its parameter sets
+pub length-signature_of : (key : Key) (q : ℕ) (message : List ℕ)
+    → length (signature_of key q message) ≡ signature_len_of key.width key.height
+length-signature_of key q message =
+    let ots = one_time.signature_of key.width key.seed (identifier_of key.seed) q message in
+    let whole : length (one_time.signature_of key.width key.seed (identifier_of key.seed) q message)
+    ≡ parameters.signature_len_of key.width = length-one_time key.width key.seed (identifier_of key.seed) q message in
+    let path_len : length (path_of key q) ≡ 32 * levels_of key.height =
+    length-path_from key 0 (leaves_of key.height + q) (levels_of key.height) in
+    omega (arith, length-parts_of q ots (height_code_of key.height) (path_of key q))
+
 -- a signature is formed as its parameter sets want it
 formed_is : (key : Key) (q : ℕ) (message : List ℕ) → q < leaves_of key.height
     → is_formed key.width key.height (signature_of key q message) ≡ true
@@ -257,16 +266,11 @@ formed_is key q message below =
     let ots = one_time.signature_of key.width key.seed (identifier_of key.seed) q message in
     let code = height_code_of key.height in
     let path = path_of key q in
-    let whole : length (one_time.signature_of key.width key.seed (identifier_of key.seed) q message) ≡ parameters.signature_len_of key.width =
-    length-one_time key.width key.seed (identifier_of key.seed) q message in
-    let path_len : length (path_of key q) ≡ 32 * levels_of key.height =
-    length-path_from key 0 (leaves_of key.height + q) (levels_of key.height) in
+    let whole = length-one_time key.width key.seed (identifier_of key.seed) q message in
     let found : leaf_in (signature_of key q message) ≡ q = leaf_found q ots code path (leaf_small key.height q below) in
     let leaf : leaf_in (signature_of key q message) < leaves_of key.height = rw found below in
-    let len : length (signature_of key q message) ≡ signature_len_of key.width key.height =
-    omega (arith, length-parts_of q ots code path) in
-    formed_by key.width key.height (signature_of key q message) len (width_code_found key.width)
-    (code_found key.width q ots code path whole (height_code_small key.height)) leaf
+    formed_by key.width key.height (signature_of key q message) (length-signature_of key q message)
+    (width_code_found key.width) (code_found key.width q ots code path whole (height_code_small key.height)) leaf
 
 -- whether a signature is valid under a public key whose parameter sets are known
 valid_under : (key message signature : List ℕ) (width : Width) (height : Height) → length key ≡ 56

@@ -1,3 +1,3 @@
 mod Paths
 mod Tables
-mod Accepted
+pub mod Accepted

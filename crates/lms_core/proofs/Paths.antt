@@ -1,11 +1,11 @@
 -- A root along a path, level by level.
-use Rattle.std.proofs.Common.{◌≡◌, ℕ, suc, ◌+◌, ◌-◌, ◌*◌, ◌^◌, ◌<◌, ◌≤◌, ◌/◌, ◌∙◌, List, [], ◌++◌, length, take, drop, arith, ap, subst, append_assoc, refl}
+use Rattle.std.proofs.Common.{◌≡◌, ℕ, suc, ◌+◌, ◌-◌, ◌*◌, ◌^◌, ◌<◌, ◌≤◌, ◌/◌, ◌∙◌, List, ◌++◌, length, take, drop, arith, ap, subst, append_assoc}
 use Rattle.std.proofs.Math.Pow.{pow_mono}
 use Rattle.std.proofs.lemmas.Bool.Decides.{nat_tests}
 use Rattle.std.proofs.lemmas.List.{append-nil, drop-drop, take_all}
 use Rattle.std.proofs.lemmas.Nat.{pow_pos}
-use Rattle.lms_core.specs.Parameters.{leaves_of, levels_of}
-use Rattle.lms_core.specs.Tree.{Key, node_of, path_from, path_of, sibling_of, IsNode}
+use Rattle.lms_core.specs.Parameters.{levels_of}
+use Rattle.lms_core.specs.Tree.{Key, node_of, path_from, sibling_of, IsNode}
 use Rattle.lms_core.specs.Verify.{parent_node, root_along}
 use Rattle.lms_core.proofs.Tables.{pow_more}
 

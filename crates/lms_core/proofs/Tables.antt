@@ -1,5 +1,5 @@
 -- The nodes of a tree, and a table of them that is filled from the leaves up.
-use Rattle.std.proofs.Common.{◌≡◌, ◌≢◌, ℕ, zero, suc, ◌+◌, ◌-◌, ◌*◌, ◌^◌, ◌<◌, ◌≤◌, ◌⊎◌, inl, inr, ◌∙◌, List, [], ◌++◌, length, get_or, set, arith, sym, ap, subst, refl}
+use Rattle.std.proofs.Common.{◌≡◌, ◌≢◌, ℕ, zero, suc, ◌+◌, ◌-◌, ◌*◌, ◌^◌, ◌<◌, ◌≤◌, inl, inr, ◌∙◌, List, [], ◌++◌, length, get_or, set, arith, sym, ap, subst, refl}
 use Rattle.std.specs.Int.{w32, to_be_bytes}
 use Rattle.std.proofs.Math.Pow.{pow_mono}
 use Rattle.std.proofs.Math.Nat.{pow-suc}
@@ -11,7 +11,7 @@ use Rattle.lmots_core.specs.Chains as one_time
 use Rattle.lms_core.specs.declared.height.Height.{Height}
 use Rattle.lms_core.specs.Parameters.{height_code_of, leaves_of, levels_of}
 use Rattle.lms_core.specs.Table.{HasNodesFrom}
-use Rattle.lms_core.specs.Tree.{Key, identifier_of, inner_node, leaf_node, node_of, public_key_of, root_of, IsNode}
+use Rattle.lms_core.specs.Tree.{Key, identifier_of, inner_node, leaf_node, node_of, public_key_of, IsNode}
 
 -- twice a power of two
 pub pow_more : (n : ℕ) → 2 ^ (n + 1) ≡ 2 * 2 ^ n

@@ -1,5 +1,5 @@
 -- When a signature is valid under a public key (RFC 8554, section 5.4.2), on lists of bytes
-use Rattle.std.specs.Prelude.{◌≡◌, ℕ, zero, suc, ◌+◌, ◌*◌, ◌/◌, ◌%◌, ◌==◌, ◌&&◌, Bool, false, IsTrue, IsSome, if◌then◌else◌, List, length, take, drop, nat_lt, Option, None, Some}
+use Rattle.std.specs.Prelude.{◌≡◌, ℕ, zero, suc, ◌+◌, ◌/◌, ◌%◌, ◌==◌, ◌&&◌, Bool, false, IsTrue, IsSome, if◌then◌else◌, List, length, take, drop, nat_lt, Option, None, Some}
 use Rattle.std.specs.Int.{w32, from_be_bytes}
 use Rattle.std.specs.Str.{bytes_eq}
 use Rattle.lmots_core.specs.declared.parameters.Width.{Width}

@@ -67,7 +67,12 @@ impl PublicKey {
     }
 
     // The public key with these fields.
-    pub(crate) fn with(width: Width, height: Height, id: &[u8; 16], root: &[u8; 32]) -> PublicKey
+    pub(crate) fn from_parts(
+        width: Width,
+        height: Height,
+        id: &[u8; 16],
+        root: &[u8; 32],
+    ) -> PublicKey
         ensures { result ≡ to_be_bytes w32 (height_code_of height) ++ to_be_bytes w32 (code_of width) ++ id.now ++ root.now }
     {
         let mut bytes = [0; 56];

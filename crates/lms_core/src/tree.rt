@@ -60,7 +60,7 @@ impl Tree {
     pub fn public(&self) -> PublicKey
         ensures { result ≡ public_key_of self.now }
     {
-        PublicKey::with(self.width, self.height, &self.id, &self.node(1))
+        PublicKey::from_parts(self.width, self.height, &self.id, &self.node(1))
     }
 
     /// The width of the one-time signatures.

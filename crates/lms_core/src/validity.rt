@@ -58,6 +58,7 @@ fn candidate_root(
     let one_time = &signature[PLACE_OF_ONE_TIME..PLACE_OF_ONE_TIME + one_time_len];
     let key = lmots_core::candidate(id, q, message, one_time)?;
     let r = height.leaves() + q;
+    // Behind the leaf's number, the one-time signature and the code of the height.
     let path = &signature[8 + one_time_len..];
     Some(root_along(id, r, &leaf_node(id, r, &key), height.levels(), path))
 }

@@ -1,4 +1,4 @@
-use Rattle.std.proofs.Common.{◌≡◌, ◌≤◌, ◌+◌, ◌-◌, ◌*◌, ◌∙◌, arith, sym, drop}
+use Rattle.std.proofs.Common.{◌≡◌, ◌≤◌, ◌+◌, ◌-◌, ◌*◌, ◌∙◌, arith, sym}
 use Rattle.lms_core.proofs.Paths.{root_along_more, root_along_end}
 use Rattle.lms_core.proofs.nodes.root_along.Goals as goal
 

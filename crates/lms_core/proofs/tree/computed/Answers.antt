@@ -1,4 +1,4 @@
-use Rattle.std.proofs.Common.{◌≡◌, ◌-◌, ◌<◌, ◌≤◌, ap, refl, arith}
+use Rattle.std.proofs.Common.{◌-◌, ◌<◌, ◌≤◌, ap, refl, arith}
 use Rattle.lms_core.specs.Parameters.{leaves_of}
 use Rattle.lms_core.specs.Tree.{key_from}
 use Rattle.lms_core.proofs.Tables.{inner_is, leaf_is}

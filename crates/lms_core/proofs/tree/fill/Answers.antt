@@ -1,4 +1,4 @@
-use Rattle.std.proofs.Common.{◌≡◌, ℕ, ◌+◌, ◌-◌, ◌*◌, ◌<◌, ap, subst, sym, arith}
+use Rattle.std.proofs.Common.{◌≡◌, ℕ, ◌+◌, ◌-◌, ◌*◌, ◌<◌, ap, subst, arith}
 use Rattle.lms_core.specs.Parameters.{leaves_of}
 use Rattle.lms_core.specs.Table.{HasNodesFrom}
 use Rattle.lms_core.specs.Tree.{key_from}

@@ -1,4 +1,4 @@
-use Rattle.std.proofs.Common.{◌≡◌, ◌∙◌, ◌<◌, ◌≤◌, ◌*◌, length, sym, ap, arith}
+use Rattle.std.proofs.Common.{◌∙◌, ◌<◌, ◌≤◌, ◌*◌, length, sym, ap, arith}
 use Rattle.lms_core.specs.Parameters.{levels_of}
 use Rattle.lms_core.specs.Tree.{sibling_of, IsNode}
 use Rattle.lms_core.proofs.Paths.{sibling_inside, parent_inside, path_more, path_end}

@@ -14,4 +14,4 @@ returns c =
     (λ key. to_be_bytes w32 (height_code_of key.height) ++ to_be_bytes w32 (code_of key.width)
     ++ c.self.inside.id ++ c.node.result)
     c.self.view_is in
-    public_key_is c.args.self.now c.self.inside.id c.node.result _ same c.node.ensures (c.with.ensures ∙ kept)
+    public_key_is c.args.self.now c.self.inside.id c.node.result _ same c.node.ensures (c.from_parts.ensures ∙ kept)
