@@ -105,6 +105,7 @@ length-root_of : (key : Key) → length (root_of key) ≡ 32
 length-root_of key = length-node_of key (levels_of key.height) 1
 
 pub length-public_key_of : (key : Key) → length (public_key_of key) ≡ 56
+unfolding public_key_of
 length-public_key_of key =
     let id_len = length-identifier_of key.seed in
     let root_len = length-root_of key in
@@ -113,9 +114,11 @@ length-public_key_of key =
     omega arith
 
 identifier_found : (key : Key) → identifier_in (public_key_of key) ≡ identifier_of key.seed
+unfolding public_key_of
 identifier_found key = take_at (identifier_of key.seed) (root_of key) 16 (length-identifier_of key.seed)
 
 root_found : (key : Key) → root_in (public_key_of key) ≡ root_of key
+unfolding public_key_of
 root_found key =
     let root_len = length-root_of key in
     ap (take 32) (drop_at (identifier_of key.seed) (root_of key) 16 (length-identifier_of key.seed))
@@ -216,6 +219,7 @@ key_reaches_root key q below =
 -- a signature leads to the root
 root_is : (key : Key) (q : ℕ) (message : List ℕ) → q < leaves_of key.height
     → candidate_root key.width key.height (identifier_of key.seed) message (signature_of key q message) ≡ Some (root_of key)
+unfolding signature_of
 root_is key q message below =
     let id = identifier_of key.seed in
     let signature = signature_of key q message in
@@ -251,6 +255,7 @@ width_code_found W8 = refl
 -- a signature has the length of its parameter sets
 pub length-signature_of : (key : Key) (q : ℕ) (message : List ℕ)
     → length (signature_of key q message) ≡ signature_len_of key.width key.height
+unfolding signature_of
 length-signature_of key q message =
     let ots = one_time.signature_of key.width key.seed (identifier_of key.seed) q message in
     let whole : length (one_time.signature_of key.width key.seed (identifier_of key.seed) q message)
@@ -262,6 +267,7 @@ length-signature_of key q message =
 -- a signature is formed as its parameter sets want it
 formed_is : (key : Key) (q : ℕ) (message : List ℕ) → q < leaves_of key.height
     → is_formed key.width key.height (signature_of key q message) ≡ true
+unfolding signature_of
 formed_is key q message below =
     let ots = one_time.signature_of key.width key.seed (identifier_of key.seed) q message in
     let code = height_code_of key.height in
@@ -278,12 +284,14 @@ valid_under : (key message signature : List ℕ) (width : Width) (height : Heigh
     → is_valid_signature key message signature
     ≡ (is_formed width height signature
     && is_root_in key (candidate_root width height (identifier_in key) message signature))
+unfolding is_valid_signature
 valid_under key message signature width height whole is_width is_height =
     let same = eq-eqb _ _ whole in rw (same, is_width, is_height)
 
 -- each signature is valid under its public key
 pub valid_signature : (key : Key) (q : ℕ) (message signature : List ℕ) → q < leaves_of key.height
     → signature ≡ signature_of key q message → IsValidSignature (public_key_of key) message signature
+unfolding public_key_of
 valid_signature key q message signature below is =
     let public = public_key_of key in
     let signed = signature_of key q message in

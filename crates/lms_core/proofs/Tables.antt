@@ -115,6 +115,7 @@ nodes_more key nodes r node inside table is = record {
 pub public_key_is : (key : Key) (id root bytes : List ℕ) → id ≡ identifier_of key.seed → IsNode key 1 root
     → bytes ≡ to_be_bytes w32 (height_code_of key.height) ++ to_be_bytes w32 (code_of key.width) ++ id ++ root
     → bytes ≡ public_key_of key
+unfolding public_key_of
 public_key_is key id root bytes same node is =
     let codes = to_be_bytes w32 (height_code_of key.height) ++ to_be_bytes w32 (code_of key.width) in
     is ∙ ap (λ i. codes ++ i ++ root) same

@@ -57,7 +57,7 @@ abbrev pub root_of : Key → List ℕ
 root_of key = node_of key (levels_of key.height) 1
 
 -- the public key: u32str(type) || u32str(otstype) || I || T[1], of 56 bytes (RFC 8554, section 5.3)
-abbrev pub public_key_of : Key → List ℕ
+unfoldable pub public_key_of : Key → List ℕ
 public_key_of key =
     to_be_bytes w32 (height_code_of key.height) ++ to_be_bytes w32 (code_of key.width)
     ++ identifier_of key.seed ++ root_of key
@@ -78,7 +78,7 @@ path_of key q = path_from key 0 (leaves_of key.height + q) (levels_of key.height
 
 -- the signature of a message under the leaf q: u32str(q) || one-time signature || u32str(type) || path
 -- (RFC 8554, section 5.4)
-abbrev pub signature_of : Key → ℕ → List ℕ → List ℕ
+unfoldable pub signature_of : Key → ℕ → List ℕ → List ℕ
 signature_of key q message =
     to_be_bytes w32 q ++ one_time.signature_of key.width key.seed (identifier_of key.seed) q message
     ++ to_be_bytes w32 (height_code_of key.height) ++ path_of key q

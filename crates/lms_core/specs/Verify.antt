@@ -101,7 +101,7 @@ is_valid_under (Some width) (Some height) key message signature =
 
 -- whether a signature of the message is valid under a public key: the key is well formed, the signature is as its
 -- parameter sets want it, and the root that it leads to is the key's (RFC 8554, section 5.4.2, algorithm 6)
-abbrev pub is_valid_signature : List ℕ → List ℕ → List ℕ → Bool
+unfoldable pub is_valid_signature : List ℕ → List ℕ → List ℕ → Bool
 is_valid_signature key message signature =
     (length key == 56) && is_valid_under (width_in key) (height_in key) key message signature
 

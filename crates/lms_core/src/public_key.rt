@@ -47,6 +47,7 @@ impl Model for PublicKey {
 impl PublicKey {
     /// The public key that these bytes are: `None` exactly where there aren't 56 of them or one of the two codes is
     /// unknown.
+    #[tactic(auto, unfolding(crate::specs::Verify::is_valid_signature))]
     pub fn read(bytes: &[u8]) -> Option<PublicKey>
         ensures read { SomeIff result (IsPublicKey bytes.now) bytes.now }
         // Under bytes that are no public key, no signature is valid.

@@ -93,6 +93,7 @@ impl Tree {
 
     /// Writes the signature of `message` under the leaf `q` to `out` (RFC 8554, section 5.4). A leaf may sign one message
     /// alone: who signs two with it gives away a part of the secret.
+    #[tactic(auto, unfolding(crate::specs::Tree::signature_of))]
     pub fn sign(&self, q: u32, message: &[u8], out: &mut [u8])
         requires leaf { q < leaves_of self.now.height }
         requires room { length out.old ≡ signature_len_of self.now.width self.now.height }

@@ -17,6 +17,7 @@ const PLACE_OF_ONE_TIME: usize = 4;
 /// Whether `signature` is a valid signature of `message` under `key` (RFC 8554, section 5.4.2, algorithm 6): it has the
 /// length of the key's two codes, both codes are the key's, its leaf is one of the tree's, and the root that it leads to
 /// is the key's.
+#[tactic(auto, unfolding(crate::specs::Verify::is_valid_signature))]
 pub fn verify(key: &PublicKey, message: &[u8], signature: &[u8]) -> bool
     ensures valid { IsTrue result ↔ IsValidSignature key.now message.now signature.now }
     ensures value { result ≡ is_valid_signature key.now message.now signature.now }
