@@ -41,12 +41,12 @@ pub record IsPublicKey (key : List ℕ) : Type 0 where
 -- ---- the root that a signature leads to
 
 -- the node above node r, from that node and its sibling: node r is joined on the left where r is even, on the right where
--- it is odd (RFC 8554, section 5.4.2, algorithm 6a, step 4)
+-- it is odd (RFC 8554, section 5.4.2, algorithm 6a)
 abbrev pub parent_node : List ℕ → ℕ → List ℕ → List ℕ → List ℕ
 parent_node id r node sibling =
     if r % 2 == 0 then inner_node id (r / 2) node sibling else inner_node id (r / 2) sibling node
 
--- the node n levels above node r, along a path of siblings (RFC 8554, section 5.4.2, algorithm 6a, step 4)
+-- the node n levels above node r, along a path of siblings (RFC 8554, section 5.4.2, algorithm 6a)
 unfoldable pub root_along : List ℕ → ℕ → List ℕ → ℕ → List ℕ → List ℕ
 root_along id r node zero path = node
 root_along id r node (suc n) path = root_along id (r / 2) (parent_node id r node (take 32 path)) n (drop 32 path)
@@ -78,7 +78,7 @@ candidate_root width height id message signature =
 -- ---- valid signatures
 
 -- whether a signature has the length of the two parameter sets, both their codes, and the number of a leaf
--- (RFC 8554, section 5.4.2, algorithm 6a, step 2)
+-- (RFC 8554, section 5.4.2, algorithm 6a)
 abbrev pub is_formed : Width → Height → List ℕ → Bool
 is_formed width height signature =
     (length signature == signature_len_of width height)
