@@ -18,6 +18,8 @@ use sha2::{Digest, Sha256};
 mod chains;
 mod digits;
 mod parameters;
+#[cfg(test)]
+mod tests;
 
 // What stands in the place of a chain's number in the hash of the chains' ends, and of a message
 // (RFC 8554, section 4.1).
