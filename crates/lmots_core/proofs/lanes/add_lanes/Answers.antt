@@ -1,5 +1,4 @@
 use Rattle.std.proofs.Common.{◌≡◌, ◌+◌, ◌∙◌, ◌++◌, add-zero, arith}
-use Rattle.sha2.specs.Hashers.{Holds256}
 use Rattle.lmots_core.specs.Chains.{joined}
 use Rattle.lmots_core.proofs.Joined.{joined_more}
 use Rattle.lmots_core.proofs.lanes.add_lanes.Goals as goal

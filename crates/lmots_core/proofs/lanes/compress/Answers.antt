@@ -1,6 +1,6 @@
 use Rattle.std.proofs.Common.{◌∙◌, ap₂}
 use Rattle.sha2.specs.Sha256.{add_state, compress, initial_hash_256, rounds}
-use Rattle.sha2.proofs.Schedule256.{IsRoundsAt_at, IsWindow_first}
+use Rattle.sha2.proofs.Schedule256.{IsWindow_first}
 use Rattle.lmots_core.specs.Lanes.{lane}
 use Rattle.lmots_core.proofs.FourLanes.{length-lane}
 use Rattle.lmots_core.proofs.lanes.compress.Goals as goal
