@@ -23,7 +23,7 @@ mod parameters;
 mod tests;
 
 // What stands in the place of a chain's number in the hash of the chains' ends, and of a message
-// (RFC 8554, section 4.1).
+// (RFC 8554, sections 4.3 and 4.5).
 const D_PBLC: u16 = 0x8080;
 
 const D_MESG: u16 = 0x8181;
@@ -47,7 +47,7 @@ fn hasher_of(id: &[u8; 16], q: u32, kind: u16) -> Sha256
     hasher
 }
 
-// Q, the hash of a message (RFC 8554, section 4.5, step 3).
+// Q, the hash of a message (RFC 8554, section 4.5).
 fn message_hash(id: &[u8; 16], q: u32, randomizer: &[u8], message: &[u8]) -> [u8; 32]
     ensures { result ≡ message_hash id.now q randomizer.now message.now }
 {
