@@ -1,13 +1,13 @@
 -- Each signature leads to the public key.
-use Rattle.std.proofs.Common.{◌≡◌, ℕ, zero, suc, ◌+◌, ◌-◌, ◌*◌, ◌<◌, ◌≤◌, Option, Some, None, List, [], ◌∷◌, ◌++◌, length, take, drop, refl, sym, ap, ◌∙◌, append_assoc, arith, length-append, nat_lt, cond}
+use Rattle.std.proofs.Common.{◌≡◌, ℕ, ◌+◌, ◌*◌, ◌<◌, ◌≤◌, Option, Some, None, List, ◌++◌, length, take, ap, ◌∙◌, arith, length-append, nat_lt, cond}
 use Rattle.std.specs.Int.{w32, to_be_bytes, from_be_bytes}
-use Rattle.std.proofs.lemmas.List.{drop_at, drop-drop, take_at}
+use Rattle.std.proofs.lemmas.List.{take_at}
 use Rattle.std.proofs.lemmas.Nat.{and_le_l}
 use Rattle.sha2.proofs.Facts256.{length-sha256}
 use Rattle.lmots_core.specs.declared.parameters.Width.{Width}
 use Rattle.lmots_core.specs.declared.parameters.Width.TheVariants.{W1, W2, W4, W8}
-use Rattle.lmots_core.specs.Parameters.{bits_of, chains_of, code_of, greatest_of, signature_len_of, width_of}
-use Rattle.lmots_core.specs.Chains.{candidate_of, candidate_part, candidate_under, candidate_for, chain, digit, end_of, joined, key_of, message_hash, part_in, prefix, public_of, randomizer_in, randomizer_of, secret_of, signature_of, signed_part, steps, whole_width, whole_width_in}
+use Rattle.lmots_core.specs.Parameters.{chains_of, code_of, greatest_of, signature_len_of, width_of}
+use Rattle.lmots_core.specs.Chains.{candidate_of, candidate_part, candidate_under, candidate_for, chain, digit, end_of, joined, key_of, message_hash, part_in, prefix, public_of, randomizer_in, randomizer_of, secret_of, signature_of, signed_part, whole_width, whole_width_in}
 use Rattle.lmots_core.proofs.Sizes.{parts_whole}
 use Rattle.lmots_core.proofs.Steps.{length-steps, steps_through}
 use Rattle.lmots_core.proofs.Joined.{joined-same, length-joined, part_at}

@@ -1,7 +1,7 @@
 -- A block of a chain, and what a write to one of its fields leaves.
-use Rattle.std.proofs.Common.{◌≡◌, ℕ, ◌+◌, ◌<◌, ◌≤◌, List, [], ◌∷◌, ◌++◌, length, take, drop, refl, sym, ap, ◌∙◌, append_assoc, arith, length-append}
+use Rattle.std.proofs.Common.{◌≡◌, ℕ, ◌+◌, ◌<◌, ◌≤◌, List, [], ◌∷◌, ◌++◌, length, take, sym, ap, ◌∙◌, append_assoc, arith, length-append}
 use Rattle.std.proofs.Math.ListN.{set}
-use Rattle.std.proofs.lemmas.List.{take_at, take-take, take_more_set, take-set, set_split, length-set}
+use Rattle.std.proofs.lemmas.List.{take_at, take-take, take_more_set, length-set}
 
 -- the first two of three parts
 pub front_two : (a b r : List ℕ) (n : ℕ) → length a + length b ≡ n → take n (a ++ (b ++ r)) ≡ a ++ b

@@ -22,7 +22,7 @@ shortfall s w (suc n) = shortfall s w n + (2 ^ w - 1 - coefficient s n w)
 abbrev pub checksum : Width → List ℕ → ℕ
 checksum width s = shortfall s (bits_of width) (256 / bits_of width) * 2 ^ shift_of width
 
--- a[i]: digit i of a hash followed by its checksum (RFC 8554, section 4.5, step 5)
+-- a[i]: digit i of a hash followed by its checksum (RFC 8554, section 4.5)
 abbrev pub digit : Width → List ℕ → ℕ → ℕ
 digit width hash i = coefficient (hash ++ to_be_bytes w16 (checksum width hash)) i (bits_of width)
 
@@ -34,16 +34,16 @@ abbrev pub prefix : List ℕ → ℕ → ℕ → List ℕ
 prefix id q i = id ++ to_be_bytes w32 q ++ to_be_bytes w16 i
 
 -- one step of a chain from number j on, under the chain's prefix p: H(I || u32str(q) || u16str(i) || u8str(j) || tmp)
--- (RFC 8554, section 4.3, step 4)
+-- (RFC 8554, section 4.3)
 abbrev pub step : List ℕ → ℕ → List ℕ → List ℕ
 step p j tmp = sha256 (p ++ j ∷ tmp)
 
--- n steps of a chain, the first of them from number a on (RFC 8554, section 4.3, step 4)
+-- n steps of a chain, the first of them from number a on (RFC 8554, section 4.3)
 unfoldable pub steps : List ℕ → ℕ → ℕ → List ℕ → List ℕ
 steps p a zero x = x
 steps p a (suc n) x = steps p (a + 1) n (step p a x)
 
--- chain i from number a up to number b (RFC 8554, section 4.3, step 4)
+-- chain i from number a up to number b (RFC 8554, section 4.3)
 abbrev pub chain : List ℕ → ℕ → ℕ → ℕ → ℕ → List ℕ → List ℕ
 chain id q i a b x = steps (prefix id q i) a (b - a) x
 
@@ -58,22 +58,22 @@ joined f (suc n) = joined f n ++ f n
 abbrev pub secret_of : List ℕ → List ℕ → ℕ → ℕ → List ℕ
 secret_of seed id q i = sha256 (prefix id q i ++ 0xff ∷ seed)
 
--- C, the randomizer of a signature. RFC 8554, section 4.5, step 2, leaves its choice to the signer: here it is made
+-- C, the randomizer of a signature. RFC 8554, section 4.5, leaves its choice to the signer: here it is made
 -- as an x[i] (appendix A) with 0xfffd, the number of no chain, in the place of i
 abbrev pub randomizer_of : List ℕ → List ℕ → ℕ → List ℕ
 randomizer_of seed id q = secret_of seed id q 0xfffd
 
 -- Q, the hash of a message: H(I || u32str(q) || u16str(D_MESG) || C || message), where D_MESG is 0x8181
--- (RFC 8554, section 4.5, step 3)
+-- (RFC 8554, section 4.5)
 abbrev pub message_hash : List ℕ → ℕ → List ℕ → List ℕ → List ℕ
 message_hash id q randomizer message = sha256 (prefix id q 0x8181 ++ randomizer ++ message)
 
 -- K, the key of the chains' ends: H(I || u32str(q) || u16str(D_PBLC) || y[0] || .. || y[p-1]), where D_PBLC is 0x8080
--- (RFC 8554, section 4.3, step 5)
+-- (RFC 8554, section 4.3)
 abbrev pub key_of : List ℕ → ℕ → List ℕ → List ℕ
 key_of id q ends = sha256 (prefix id q 0x8080 ++ ends)
 
--- y[i] of the public key: the end of the whole chain i (RFC 8554, section 4.3, step 4)
+-- y[i] of the public key: the end of the whole chain i (RFC 8554, section 4.3)
 abbrev pub end_of : Width → List ℕ → List ℕ → ℕ → ℕ → List ℕ
 end_of width seed id q i = chain id q i 0 (greatest_of width) (secret_of seed id q i)
 
@@ -81,7 +81,7 @@ end_of width seed id q i = chain id q i 0 (greatest_of width) (secret_of seed id
 abbrev pub public_of : Width → List ℕ → List ℕ → ℕ → List ℕ
 public_of width seed id q = key_of id q (joined (end_of width seed id q) (chains_of width))
 
--- y[i] of a signature: chain i as far as digit i of the message's hash (RFC 8554, section 4.5, step 5)
+-- y[i] of a signature: chain i as far as digit i of the message's hash (RFC 8554, section 4.5)
 abbrev pub signed_part : Width → List ℕ → List ℕ → ℕ → List ℕ → ℕ → List ℕ
 signed_part width seed id q hash i = chain id q i 0 (digit width hash i) (secret_of seed id q i)
 
@@ -102,24 +102,24 @@ randomizer_in signature = take 32 (drop 4 signature)
 abbrev pub part_in : List ℕ → ℕ → List ℕ
 part_in signature i = take 32 (drop (36 + 32 * i) signature)
 
--- z[i]: chain i taken on from the signature's part to its end (RFC 8554, section 4.6, algorithm 4b, step 3)
+-- z[i]: chain i taken on from the signature's part to its end (RFC 8554, section 4.6, algorithm 4b)
 abbrev pub candidate_part : Width → List ℕ → ℕ → List ℕ → List ℕ → ℕ → List ℕ
 candidate_part width id q hash signature i =
     chain id q i (digit width hash i) (greatest_of width) (part_in signature i)
 
--- Kc, of a signature of this width (RFC 8554, section 4.6, algorithm 4b, step 3)
+-- Kc, of a signature of this width (RFC 8554, section 4.6, algorithm 4b)
 abbrev pub candidate_under : Width → List ℕ → ℕ → List ℕ → List ℕ → List ℕ
 candidate_under width id q message signature =
     let hash = message_hash id q (randomizer_in signature) message in
     key_of id q (joined (candidate_part width id q hash signature) (chains_of width))
 
 -- the width that the first four bytes of a signature name, where there are four bytes and the code is one of the table
--- (RFC 8554, section 4.6, algorithm 4b, step 2)
+-- (RFC 8554, section 4.6, algorithm 4b)
 abbrev pub width_in : List ℕ → Option Width
 width_in signature =
     if nat_lt (length signature) 4 then None else width_of (from_be_bytes w32 (take 4 signature))
 
--- the width, where the length is that width's (RFC 8554, section 4.6, algorithm 4b, step 2d)
+-- the width, where the length is that width's (RFC 8554, section 4.6, algorithm 4b)
 abbrev pub whole_width : Option Width → ℕ → Option Width
 whole_width None n = None
 whole_width (Some width) n = if n == signature_len_of width then Some width else None

@@ -3,7 +3,7 @@ use Rattle.std.specs.Prelude.{ℕ, ◌-◌, ◌^◌, ◌==◌, if◌then◌else�
 use Rattle.lmots_core.specs.declared.parameters.Width.{Width}
 use Rattle.lmots_core.specs.declared.parameters.Width.TheVariants.{W1, W2, W4, W8}
 
--- the typecode of a parameter set (RFC 8554, section 4.1, table 1, and section 8, table 7)
+-- the typecode of a parameter set (RFC 8554, section 8)
 abbrev pub code_of : Width → ℕ
 code_of W1 = 1
 code_of W2 = 2
@@ -40,11 +40,11 @@ signature_len_of W4 = 2180
 signature_len_of W8 = 1124
 
 -- the greatest digit, 2^w - 1, which is the number of steps of a whole chain
--- (RFC 8554, section 4.3, step 4)
+-- (RFC 8554, section 4.3)
 abbrev pub greatest_of : Width → ℕ
 greatest_of width = 2 ^ bits_of width - 1
 
--- the parameter set of a typecode, where there is one (RFC 8554, section 4.1, table 1)
+-- the parameter set of a typecode, where there is one (RFC 8554, section 8)
 abbrev pub width_of : ℕ → Option Width
 width_of code =
     if code == 1 then Some W1

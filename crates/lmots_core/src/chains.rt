@@ -1,4 +1,4 @@
-// The chains of a leaf (RFC 8554, section 4.3, step 4). Each step hashes one block of 55 bytes, which is kept and
+// The chains of a leaf (RFC 8554, section 4.3). Each step hashes one block of 55 bytes, which is kept and
 // changed in place: I (16), u32str(q), u16str(i), u8str(j), and the value that the step takes on (32).
 
 ghost use Rattle.std.specs.Prelude.{◌≡◌, ◌+◌, ◌-◌, ◌≤◌, ◌++◌, ◌∷◌, length, take, drop};

@@ -8,7 +8,7 @@ ghost use Rattle.lmots_core.specs.Chains.{checksum, coefficient, digit, shortfal
 use crate::parameters::Width;
 
 // Digit `i` of `bytes` (RFC 8554, section 3.1.3).
-fn coefficient(bytes: &[u8], i: usize, width: Width) -> u8
+pub(crate) fn coefficient(bytes: &[u8], i: usize, width: Width) -> u8
     requires { i * bits_of width / 8 < length bytes.now }
     ensures value { result ≡ coefficient bytes.now i (bits_of width) }
     ensures digit { result ≤ greatest_of width }

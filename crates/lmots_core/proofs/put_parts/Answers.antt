@@ -1,5 +1,5 @@
 use Rattle.std.proofs.Common.{◌≡◌, ◌∙◌, ◌+◌, ◌*◌, ◌++◌, ap, sym, take, arith}
-use Rattle.lmots_core.specs.Chains.{joined, signed_part}
+use Rattle.lmots_core.specs.Chains.{signed_part}
 use Rattle.lmots_core.proofs.Joined.{joined_none, joined_more}
 use Rattle.lmots_core.proofs.put_parts.Goals as goal
 

@@ -1,5 +1,5 @@
-use Rattle.std.proofs.Common.{◌≡◌, ◌∙◌, ap}
-use Rattle.lmots_core.specs.Chains.{candidate_of, signature_of}
+use Rattle.std.proofs.Common.{◌≡◌}
+use Rattle.lmots_core.specs.Chains.{signature_of}
 use Rattle.lmots_core.proofs.Accepted.{accepted}
 use Rattle.lmots_core.proofs.sign.Goals as goal
 
