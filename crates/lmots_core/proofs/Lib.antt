@@ -1,0 +1,7 @@
+pub mod Blocks
+pub mod Steps
+pub mod Sizes
+pub mod Joined
+pub mod Accepted
+pub mod FourLanes
+pub mod PaddedBlock

@@ -1,0 +1,3 @@
+mod Paths
+mod Tables
+pub mod Accepted

@@ -1,0 +1,20 @@
+//! Signatures of many leaves: LMS of RFC 8554, section 5, with SHA-256, m = 32 and trees of height 5 or 10.
+//!
+//! A private key is a secret seed of 32 bytes with the width of its one-time signatures and the height of its tree.
+//! `Tree::build` makes it, `Tree::sign` signs under one of its leaves, and `verify` tells whether a signature is valid
+//! under a `PublicKey`. All numbers are written high byte first.
+#![tactic(auto)]
+
+pub use height::{Height, signature_len};
+pub use lmots_core::Width;
+pub use public_key::{PublicKey, key_id};
+pub use tree::Tree;
+pub use validity::verify;
+
+mod height;
+mod nodes;
+mod public_key;
+#[cfg(test)]
+mod tests;
+mod tree;
+mod validity;
