@@ -1,0 +1,44 @@
+-- What callers see of leases.
+use Rattle.std.specs.Prelude.{ℕ, Bool, true, false, List, Result, Ok, Err}
+use Rattle.lease_disk.specs.declared.disk.Disk.{Ghosts}
+use Rattle.leaf_lease.specs.declared.leases.Leases.{Leases}
+use Rattle.leaf_lease.specs.declared.leases.LeafLease.{LeafLease}
+use Rattle.leaf_lease.specs.declared.leases.LeaseEnd.{LeaseEnd}
+use Rattle.leaf_lease.specs.declared.leases.LeaseEnd.TheVariants.{Dry, Failed}
+
+abbrev pub leased_leaf : LeafLease → ℕ
+leased_leaf lease = lease.leaf
+
+abbrev pub leased_id : LeafLease → List ℕ
+leased_id lease = lease.id
+
+module _ {D : Type 0} {G : Ghosts D} where
+  abbrev pub disk_of : Leases D G → D
+  disk_of leases = leases.disk
+
+  abbrev pub id_of : Leases D G → List ℕ
+  id_of leases = leases.id
+
+  abbrev pub height_of : Leases D G → ℕ
+  height_of leases = leases.height
+
+  abbrev pub next_of : Leases D G → ℕ
+  next_of leases = leases.next
+
+  -- the disk, which every answer of a lease gives back
+  abbrev pub leased_disk : Result (Leases D G × LeafLease) (LeaseEnd D G) → D
+  leased_disk (Ok given) = disk_of given.0
+  leased_disk (Err (Dry leases)) = disk_of leases
+  leased_disk (Err (Failed disk)) = disk
+
+  -- whether the disk failed
+  abbrev pub lease_failed : Result (Leases D G × LeafLease) (LeaseEnd D G) → Bool
+  lease_failed (Ok given) = false
+  lease_failed (Err (Dry leases)) = false
+  lease_failed (Err (Failed disk)) = true
+
+  -- whether no leaf was left
+  abbrev pub is_dry : Result (Leases D G × LeafLease) (LeaseEnd D G) → Bool
+  is_dry (Ok given) = false
+  is_dry (Err (Dry leases)) = true
+  is_dry (Err (Failed disk)) = false

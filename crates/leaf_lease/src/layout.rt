@@ -1,0 +1,43 @@
+// How a lease file is laid out.
+ghost use Rattle.std.specs.Prelude.{◌≡◌, ◌≢◌, ◌+◌, ◌^◌, ◌<◌, ◌≤◌, ℕ, List, length, slice_index};
+ghost use Rattle.leaf_lease.specs.LeaseFile.{kept_id};
+
+/// The gate of a file that is formatted.
+pub const OPEN: u8 = 0xa5;
+
+/// How many bytes stand before the leaves: the gate, the identifier and the height.
+pub const HEAD: usize = 18;
+
+/// The size of the largest lease file, of a key of height 10.
+pub const LARGEST: usize = 1042;
+
+pub fn leaf_count(height: u8) -> u32
+    requires { height ≤ 10 }
+    ensures count { result ≡ 2 ^ height }
+    ensures most { result ≤ 1024 }
+{
+    1 << height
+}
+
+// The identifier that the file keeps.
+pub fn id_in(bytes: &[u8]) -> [u8; 16]
+    requires { 18 ≤ length bytes.now }
+    ensures id { result ≡ kept_id bytes.now }
+{
+    let mut id = [0; 16];
+    id.copy_from_slice(&bytes[1..17]);
+    id
+}
+
+// One past the last byte that is not 0, or 0.
+pub fn first_free(leaves: &[u8]) -> usize
+    ensures within { result ≤ length leaves.now }
+    ensures free { (later : ℕ) → result ≤ later → later < length leaves.now → slice_index leaves.now later ≡ 0 }
+    ensures last_gone { (last : ℕ) → result ≡ last + 1 → slice_index leaves.now last ≢ 0 }
+{
+    let mut free = leaves.len();
+    while free > 0 && leaves[free - 1] == 0 {
+        free -= 1;
+    }
+    free
+}

@@ -1,0 +1,19 @@
+//! Leaves of a one-time key, each handed out once, over crashes too.
+//!
+//! A lease file has a gate (0xa5 is open), the 16 bytes of the key's identifier, its height, and a byte for each leaf:
+//! 0 is free, and anything else is gone. What stands past the last leaf is ignored.
+#![tactic(auto)]
+
+mod formatting;
+mod judging;
+mod layout;
+mod leases;
+mod opening;
+mod steps;
+
+pub use formatting::{FormatEnd, format};
+pub use leases::{LeafLease, LeaseEnd, Leases};
+pub use opening::{OpenEnd, open};
+
+#[cfg(test)]
+mod tests;

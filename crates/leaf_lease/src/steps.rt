@@ -1,0 +1,63 @@
+// Steps of a few device calls each, over every disk.
+ghost use Rattle.std.specs.Prelude.{◌≡◌, ◌+◌, ◌^◌, ◌<◌, ◌≤◌, ◌++◌, [], ◌∷◌, ℕ, List, Some, length, min, take, drop, option_map, is_ok, IfOk, OnOk};
+ghost use Rattle.std.specs.Option.{ForSome};
+ghost use Rattle.lease_disk.specs.Call.{Len, Read, Write, Sync};
+ghost use Rattle.lease_disk.specs.Causes.{HasCause};
+ghost use Rattle.lease_disk.specs.Images.{overwritten, OnlyLooks, AtEachMoment};
+ghost use Rattle.leaf_lease.specs.Calls.{Ran};
+ghost use Rattle.leaf_lease.specs.Kept.{AfterWrite};
+
+use lease_disk::{Disk, Failed};
+
+/// The length of a file, and how many bytes of its front were read.
+#[derive(Clone, Copy)]
+pub struct Seen {
+    pub length: u64,
+    pub count: usize,
+}
+
+// Writes and makes firm.
+pub fn write_firm<D: Disk>(disk: &mut D, at: u64, bytes: &[u8]) -> Result<(), Failed>
+    requires { at + length bytes.now < 2 ^ 64 }
+    ensures content { OnOk result (D.now disk.new ≡ option_map (λ old. overwritten old at bytes.now) (D.now disk.old)) }
+    ensures firm { OnOk result ((image : List ℕ) → D.may_leave disk.new image → D.now disk.new ≡ Some image) }
+    ensures moments { AtEachMoment D.clock D.during disk.old disk.new (AfterWrite (D.may_leave disk.old) at (length bytes.now)) }
+    ensures clock { D.clock disk.new ≤ D.clock disk.old + 2 }
+    ensures cause { HasCause (D.faults disk.old) (D.faults disk.new) result }
+    ensures calls { Ran D.led disk.old (Write at bytes.now ∷ Sync ∷ []) (is_ok result) disk.new }
+{
+    disk.write_at(at, bytes)?;
+    disk.sync()
+}
+
+// Reads the front of the file.
+pub fn inspect<D: Disk>(disk: &mut D, into: &mut [u8]) -> Result<Seen, Failed>
+    ensures length { IfOk result (λ seen. ForSome (D.now disk.old) (λ file. seen.length ≡ length file)) }
+    ensures within { IfOk result (λ seen. seen.count ≤ length into.old) }
+    ensures count { IfOk result (λ seen. ForSome (D.now disk.old) (λ file. seen.count ≡ min (length into.old) (length file))) }
+    ensures bytes { IfOk result (λ seen. ForSome (D.now disk.old) (λ file. into.new ≡ take seen.count file ++ drop seen.count into.old)) }
+    ensures looks { OnlyLooks D.now D.may_leave D.clock D.during disk.old disk.new }
+    ensures cause { HasCause (D.faults disk.old) (D.faults disk.new) result }
+    ensures calls { Ran D.led disk.old (Len ∷ Read 0 (length into.old) ∷ []) (is_ok result) disk.new }
+{
+    let length = disk.len()?;
+    let count = disk.read(0, into)?;
+    Ok(Seen { length, count })
+}
+
+// Makes firm what was written before, and reads the front of the file.
+pub fn inspect_firm<D: Disk>(disk: &mut D, into: &mut [u8]) -> Result<Seen, Failed>
+    ensures length { IfOk result (λ seen. ForSome (D.now disk.old) (λ file. seen.length ≡ length file)) }
+    ensures within { IfOk result (λ seen. seen.count ≤ length into.old) }
+    ensures count { IfOk result (λ seen. ForSome (D.now disk.old) (λ file. seen.count ≡ min (length into.old) (length file))) }
+    ensures bytes { IfOk result (λ seen. ForSome (D.now disk.old) (λ file. into.new ≡ take seen.count file ++ drop seen.count into.old)) }
+    ensures content { D.now disk.new ≡ D.now disk.old }
+    ensures firm { OnOk result ((image : List ℕ) → D.may_leave disk.new image → D.now disk.new ≡ Some image) }
+    ensures moments { AtEachMoment D.clock D.during disk.old disk.new (D.may_leave disk.old) }
+    ensures clock { D.clock disk.new ≤ D.clock disk.old + 1 }
+    ensures cause { HasCause (D.faults disk.old) (D.faults disk.new) result }
+    ensures calls { Ran D.led disk.old (Sync ∷ Len ∷ Read 0 (length into.old) ∷ []) (is_ok result) disk.new }
+{
+    disk.sync()?;
+    inspect(disk, into)
+}

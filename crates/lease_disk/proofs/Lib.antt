@@ -1,0 +1,4 @@
+mod Bytes
+mod Kept
+mod Model
+mod Steps

@@ -1,0 +1,151 @@
+-- What each call of a disk in memory does to its images and to its faults.
+use Rattle.std.proofs.Common.{◌≡◌, ◌⊎◌, inl, inr, ℕ, ◌+◌, ◌-◌, ◌^◌, ◌≤◌, min, Bool, true, false, not, ◌&&◌, List, ◌∷◌, length, if◌then◌else◌, is_ok, is_err, Result, Ok, Err, OnOk, Some, refl, sym, ◌∙◌, ap, subst, arith}
+use Rattle.std.proofs.lemmas.Bool.Decides.{nat_tests}
+use Rattle.lease_disk.specs.declared.disk.Failed.{Failed}
+use Rattle.lease_disk.specs.Call.{Call, Len, Write, Sync}
+use Rattle.lease_disk.specs.Causes.{HasCause}
+use Rattle.lease_disk.specs.Images.{overwritten, Torn, ComesFrom}
+use Rattle.lease_disk.specs.PastLaws.{length-overwritten, overwritten_before, overwritten_after}
+use Rattle.lease_disk.specs.Past.{Wrote, Synced, content_of, is_pending, IsImage}
+use Rattle.lease_disk.specs.MemDisk.{DiskState, risen, is_listed, is_entered, fails, past_after, Leads, told_of, MayLeave}
+use Rattle.lease_disk.proofs.Steps.{torn_images, synced_only, firm_only, synced_from}
+
+rises : (n : ℕ) → min (n + 1) (2 ^ 64 - 1) ≤ risen n
+rises n = grind (arith, nat_tests)
+
+rises_from : (n : ℕ) → n ≤ risen n
+rises_from n = grind (arith, nat_tests)
+
+served_fails : (failing : Bool) → true ≡ not failing → failing ≡ false
+served_fails true is = is
+served_fails false is = refl
+
+refused_fails : (failing : Bool) → false ≡ not failing → failing ≡ true
+refused_fails true is = refl
+refused_fails false is = is
+
+-- a call fails only where it counts a fault
+pub cause_of : {T : Type 0} (old new : DiskState) (call : Call) (result : Result T Failed) → Leads old call (is_ok result) new → HasCause old.faults new.faults result
+cause_of old new call (Ok value) leads =
+    let served = served_fails (fails old call) leads.answer in
+    let same : new.faults ≡ old.faults = ap (λ (d : DiskState). d.faults) leads.disk ∙ ap (λ b. if b then risen old.faults else old.faults) served in
+    record { later = omega (arith, same); failed = λ err. absurd (false_true err); served = λ ok. same }
+  where
+    false_true : false ≡ true → ⊥
+    false_true e = cc
+cause_of old new call (Err error) leads =
+    let refused = refused_fails (fails old call) leads.answer in
+    let rose : new.faults ≡ risen old.faults = ap (λ (d : DiskState). d.faults) leads.disk ∙ ap (λ b. if b then risen old.faults else old.faults) refused in
+    record {
+      later = omega (arith, rose, rises_from old.faults);
+      failed = λ err. omega (arith, rose, rises old.faults);
+      served = λ ok. absurd (false_true ok);
+    }
+  where
+    false_true : false ≡ true → ⊥
+    false_true e = cc
+
+-- a write makes its entry or none
+write_past : (old : DiskState) (at : ℕ) (bytes : List ℕ) → (past_after old (Write at bytes) ≡ old.past) ⊎ (past_after old (Write at bytes) ≡ Wrote at bytes (not (is_listed old)) ∷ old.past)
+write_past old at bytes = elim (is_entered old at bytes) as (λ b. ((if b then Wrote at bytes (not (is_listed old)) ∷ old.past else old.past) ≡ old.past) ⊎ ((if b then Wrote at bytes (not (is_listed old)) ∷ old.past else old.past) ≡ Wrote at bytes (not (is_listed old)) ∷ old.past)) [
+  | true ↦ inr refl
+  | false ↦ inl refl
+]
+
+-- what a crash leaves after a write
+pub write_crash : (old new : DiskState) (at : ℕ) (bytes : List ℕ) (served : Bool) → Leads old (Write at bytes) served new → ComesFrom (Torn at (length bytes)) (MayLeave old) (MayLeave new)
+write_crash old new at bytes served leads =
+    let is : new.past ≡ past_after old (Write at bytes) = ap (λ (d : DiskState). d.past) leads.disk in
+    elim (write_past old at bytes) [
+      | inl same ↦ λ image left. (image, subst (λ p. IsImage p image) (is ∙ same) left, record { no_shorter = omega arith; no_longer = omega arith; outside = λ k there out. refl })
+      | inr entered ↦ λ image left. torn_images old.past at bytes (not (is_listed old)) image (subst (λ p. IsImage p image) (is ∙ entered) left)
+    ]
+
+-- what a sync of the record gives
+module _ (old new : DiskState) (served : Bool) (leads : Leads old Sync served new) where
+  past_is : new.past ≡ past_after old Sync
+  past_is = ap (λ (d : DiskState). d.past) leads.disk
+
+  sync_past : (new.past ≡ old.past) ⊎ (new.past ≡ Synced ∷ old.past)
+  sync_past = elim (is_pending old.past && not (fails old Sync)) as (λ b. (new.past ≡ (if b then Synced ∷ old.past else old.past)) → (new.past ≡ old.past) ⊎ (new.past ≡ Synced ∷ old.past)) [
+    | true ↦ λ is. inr is
+    | false ↦ λ is. inl is
+  ] past_is
+
+  -- a sync adds no image
+  pub sync_crash : (image : List ℕ) → MayLeave new image → MayLeave old image
+  sync_crash image left = elim sync_past [
+    | inl same ↦ subst (λ p. IsImage p image) same left
+    | inr synced ↦ synced_from old.past image (subst (λ p. IsImage p image) synced left)
+  ]
+
+  -- once it was served, a crash leaves what is read
+  firm_past : served ≡ true → (is_pending old.past ≡ false) ⊎ (new.past ≡ Synced ∷ old.past)
+  firm_past ok =
+      let works : not (fails old Sync) ≡ true = sym leads.answer ∙ ok in
+      elim (is_pending old.past) as (λ b. (new.past ≡ (if b && not (fails old Sync) then Synced ∷ old.past else old.past)) → (b ≡ false) ⊎ (new.past ≡ Synced ∷ old.past)) [
+        | true ↦ λ is. inr (is ∙ ap (λ b. if b then Synced ∷ old.past else old.past) works)
+        | false ↦ λ is. inl refl
+      ] past_is
+
+  content_is : content_of new.past ≡ content_of old.past
+  content_is = elim sync_past [ inl same ↦ ap content_of same | inr synced ↦ ap content_of synced ]
+
+  pub sync_firm : served ≡ true → (image : List ℕ) → MayLeave new image → told_of new ≡ Some image
+  sync_firm ok image left = elim (firm_past ok) [
+    | inl none ↦ ap (λ (l : List ℕ). Some l) (content_is ∙ firm_only old.past none image (sync_crash image left))
+    | inr synced ↦ ap (λ (l : List ℕ). Some l) (content_is ∙ synced_only old.past image (subst (λ p. IsImage p image) synced left))
+  ]
+
+  pub sync_content : told_of new ≡ told_of old
+  sync_content = ap (λ (l : List ℕ). Some l) content_is
+
+  -- a sync that failed made nothing firm
+  pub sync_failed : served ≡ false → new.past ≡ old.past
+  sync_failed err =
+      let fails_not : not (fails old Sync) ≡ false = sym leads.answer ∙ err in
+      past_is ∙ ap (λ b. if b then Synced ∷ old.past else old.past) (and_false (is_pending old.past) (not (fails old Sync)) fails_not)
+    where
+      and_false : (a b : Bool) → b ≡ false → a && b ≡ false
+      and_false true b is = is
+      and_false false b is = refl
+
+-- a call that could not look failed
+pub looked : {T : Type 0} (old new : DiskState) (result : Result (Unit {0}) Failed) (error : Failed) (answer : Result T Failed) → Leads old Len (is_ok result) new → result ≡ Err error → is_err answer ≡ true → HasCause old.faults new.faults answer
+looked old new result error answer leads was is =
+    let refused : is_ok result ≡ is_ok answer = ap is_ok was ∙ sym (not_ok answer is) in
+    cause_of old new Len answer (record { answer = sym refused ∙ leads.answer; disk = leads.disk })
+  where
+    not_ok : {T : Type 0} (answer : Result T Failed) → is_err answer ≡ true → is_ok answer ≡ false
+    not_ok (Ok value) is = absurd (cc)
+    not_ok (Err error) is = refl
+
+-- what holds where a call was served
+pub on_ok : {T : Type 0} (result : Result T Failed) (P : Type 0) → (is_ok result ≡ true → P) → OnOk result P
+on_ok (Ok value) P holds = holds refl
+on_ok (Err error) P holds = tt
+
+same_torn : (at count : ℕ) (bytes : List ℕ) → Torn at count bytes bytes
+same_torn at count bytes = record { no_shorter = omega arith; no_longer = omega arith; outside = λ k there out. refl }
+
+over_torn : (done : Bool) (old : List ℕ) (at : ℕ) (bytes : List ℕ) → Torn at (length bytes) old (if done then overwritten old at bytes else old)
+over_torn true old at bytes =
+    let size = length-overwritten old at bytes in
+    record {
+      no_shorter = omega arith;
+      no_longer = omega arith;
+      outside = λ k there out. elim out [
+        | inl before ↦ overwritten_before old at bytes k there before
+        | inr after ↦ overwritten_after old at bytes k there after
+      ];
+    }
+over_torn false old at bytes = same_torn at (length bytes) old
+
+-- what a write leaves to be read
+pub write_torn : (old new : DiskState) (at : ℕ) (bytes : List ℕ) (served : Bool) → Leads old (Write at bytes) served new → Torn at (length bytes) (content_of old.past) (content_of new.past)
+write_torn old new at bytes served leads =
+    let is : new.past ≡ past_after old (Write at bytes) = ap (λ (d : DiskState). d.past) leads.disk in
+    elim (write_past old at bytes) [
+      | inl same ↦ subst (λ p. Torn at (length bytes) (content_of old.past) (content_of p)) (sym (is ∙ same)) (same_torn at (length bytes) (content_of old.past))
+      | inr entered ↦ subst (λ p. Torn at (length bytes) (content_of old.past) (content_of p)) (sym (is ∙ entered)) (over_torn (not (is_listed old)) (content_of old.past) at bytes)
+    ]

@@ -1,0 +1,88 @@
+-- What callers see of a disk in memory, and what each of its calls does.
+use Rattle.std.specs.Prelude.{◌≡◌, ℕ, ◌+◌, ◌-◌, ◌^◌, max, Bool, not, ◌&&◌, ◌||◌, nat_lt, nat_le, ◌==◌, List, [], ◌∷◌, length, if◌then◌else◌, Option, Some}
+use Rattle.std.specs.List.{list_any}
+use Rattle.lease_disk.specs.Call.{Call, Len, Read, Write, Sync}
+use Rattle.lease_disk.specs.Past.{Entry, Wrote, Synced, content_of, is_pending, kept_bytes, IsImage, WasImage}
+
+-- a disk in memory
+pub record DiskState : Type 0 where
+  -- what was written, the newest first
+  pub past : List Entry
+  -- how many calls it has had
+  pub calls : ℕ
+  -- the numbers of the calls that fail
+  pub failing : List ℕ
+  -- how many bytes the file may have
+  pub room : ℕ
+  -- how many entries the record has place for, those in it among them, and how many bytes
+  pub entry_place : ℕ
+  pub byte_place : ℕ
+  -- how often it has failed
+  pub faults : ℕ
+
+-- the record of a disk in memory has place for this many entries at first
+abbrev pub first_place : ℕ
+first_place = 8
+
+-- an empty disk that has had no call
+abbrev pub new_disk : ℕ → List ℕ → DiskState
+new_disk room failing = record { past = []; calls = 0; failing = failing; room = room; entry_place = first_place; byte_place = room + first_place; faults = 0 }
+
+-- a count that rises by one, and stands still at its type's end
+abbrev pub risen : ℕ → ℕ
+risen n = if nat_lt n (2 ^ 64 - 1) then n + 1 else n
+
+-- whether the next call is one of those that fail
+abbrev pub is_listed : DiskState → Bool
+is_listed disk = list_any (λ number. number == risen disk.calls) disk.failing
+
+-- whether the record has place for one entry more, with so many bytes
+abbrev pub has_place : DiskState → ℕ → Bool
+has_place disk count = nat_lt (length disk.past) disk.entry_place && nat_le (kept_bytes disk.past + count) disk.byte_place
+
+-- whether a write within the room makes an entry
+abbrev pub is_entered : DiskState → ℕ → List ℕ → Bool
+is_entered disk at bytes = nat_le (at + length bytes) disk.room && has_place disk (length bytes)
+
+-- whether the next call fails: it is listed, it is a write past the room, or it needs an entry and finds no place
+abbrev pub fails : DiskState → Call → Bool
+fails disk Len = is_listed disk
+fails disk (Read at count) = is_listed disk
+fails disk (Write at bytes) = is_listed disk || not (is_entered disk at bytes)
+fails disk Sync = is_listed disk || (is_pending disk.past && not (has_place disk 0))
+
+-- the record after the next call: an entry for each write within the room, and for a sync that succeeds while a write waits
+abbrev pub past_after : DiskState → Call → List Entry
+past_after disk Len = disk.past
+past_after disk (Read at count) = disk.past
+past_after disk (Write at bytes) = if is_entered disk at bytes then Wrote at bytes (not (is_listed disk)) ∷ disk.past else disk.past
+past_after disk Sync = if is_pending disk.past && not (fails disk Sync) then Synced ∷ disk.past else disk.past
+
+-- the disk after its next call
+abbrev pub after_call : DiskState → Call → DiskState
+after_call disk call = record disk { past = past_after disk call; calls = risen disk.calls; faults = if fails disk call then risen disk.faults else disk.faults }
+
+-- the call is served exactly where it does not fail, and leads to this disk
+pub record Leads (old : DiskState) (call : Call) (served : Bool) (new : DiskState) : Type 0 where
+  pub answer : served ≡ not (fails old call)
+  pub disk : new ≡ after_call old call
+
+-- the bytes as they read: a disk in memory always tells them
+abbrev pub told_of : DiskState → Option (List ℕ)
+told_of disk = Some (content_of disk.past)
+
+-- what a crash may leave follows from the record
+abbrev pub MayLeave : DiskState → List ℕ → Type 0
+MayLeave disk image = IsImage disk.past image
+
+-- its clock counts the entries
+abbrev pub clock_of : DiskState → ℕ
+clock_of disk = length disk.past
+
+-- what a crash since that moment may have left
+abbrev pub MayHaveLeft : DiskState → ℕ → List ℕ → Type 0
+MayHaveLeft disk since image = WasImage since disk.past image
+
+-- the record has place for at least so many further entries, with so many bytes, and everything else stays
+abbrev pub reserved : DiskState → ℕ → ℕ → DiskState
+reserved disk calls bytes = record disk { entry_place = max disk.entry_place (length disk.past + calls); byte_place = max disk.byte_place (kept_bytes disk.past + bytes) }
