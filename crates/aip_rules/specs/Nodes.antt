@@ -1,0 +1,131 @@
+-- Where the nodes of a topology stand: names, addresses, and what lies at each port. A router's ports are numbered from
+-- 0 in the order of the host and link lines that name it, so a port's number is how many of the router's ports the
+-- lines before it take.
+use Rattle.std.specs.Prelude.{ℕ, suc, ◌+◌, ◌==◌, ◌&&◌, Bool, true, false, if◌then◌else◌, List, [], ◌∷◌, find, position, slice_get, Option, Some, None}
+use Rattle.std.specs.Str.{bytes_eq}
+use Rattle.aip_addr.specs.declared.ids.Id.{Id}
+use Rattle.aip_addr.specs.declared.ids.Address.{Address}
+use Rattle.aip_event.specs.declared.input.Target.{Target}
+use Rattle.aip_event.specs.declared.input.Target.TheVariants as target
+use Rattle.aip_topo.specs.declared.topology.Domain.{Domain}
+use Rattle.aip_topo.specs.declared.topology.Router.{Router}
+use Rattle.aip_topo.specs.declared.topology.HostPart.{HostPart}
+use Rattle.aip_topo.specs.declared.topology.Part.{Part}
+use Rattle.aip_topo.specs.declared.topology.Part.TheVariants.{Host, Link}
+use Rattle.aip_topo.specs.declared.topology.Topology.{Topology}
+use Rattle.domain_routes.specs.declared.Edge.{Edge}
+use Rattle.aip_rules.specs.declared.Seat.{Seat}
+
+-- two addresses are the same
+abbrev pub is_same_address : Address → Address → Bool
+is_same_address a b = bytes_eq a.ad.bytes b.ad.bytes && bytes_eq a.eid.bytes b.eid.bytes
+
+-- one port, where the line names this router
+abbrev pub port_if : ℕ → ℕ → ℕ
+port_if named router = if named == router then 1 else 0
+
+-- how many ports of a router a host line or a link line takes
+abbrev pub ports_of_part : Part → ℕ → ℕ
+ports_of_part (Host host) router = port_if host.router router
+ports_of_part (Link link) router = port_if link.a router + port_if link.b router
+
+-- how many ports of a router these lines take
+abbrev pub ports_in : List Part → ℕ → ℕ
+ports_in [] router = 0
+ports_in (part ∷ parts) router = ports_of_part part router + ports_in parts router
+
+-- the domain's id of a router, if there is one
+abbrev pub ad_of : Option Router → Id
+ad_of None = record { bytes = [] }
+ad_of (Some router) = router.address.ad
+
+-- a host's address: the domain of its router, and its own id
+abbrev pub host_address : List Router → HostPart → Address
+host_address routers host = record { ad = ad_of (slice_get routers host.router); eid = host.eid }
+
+-- the hosts of these lines with their ports, where the lines `before` stand before them
+abbrev pub seats_after : List Router → List Part → List Part → List Seat
+seats_after routers before [] = []
+seats_after routers before (Host host ∷ parts) =
+    record { name = host.name; router = host.router; port = ports_in before host.router; address = host_address routers host }
+    ∷ seats_after routers (Host host ∷ before) parts
+seats_after routers before (Link link ∷ parts) = seats_after routers (Link link ∷ before) parts
+
+-- the hosts of a topology with their ports, in the order of their lines
+abbrev pub seats_of : Topology → List Seat
+seats_of topo = seats_after topo.routers [] topo.parts
+
+-- the links of these lines with the ports at their two ends, where the lines `before` stand before them
+abbrev pub links_after : List Part → List Part → List Edge
+links_after before [] = []
+links_after before (Host host ∷ parts) = links_after (Host host ∷ before) parts
+links_after before (Link link ∷ parts) =
+    record { a = link.a; a_port = ports_in before link.a; b = link.b; b_port = ports_in before link.b; up = true }
+    ∷ links_after (Link link ∷ before) parts
+
+-- the links of a topology with the ports at their two ends, numbered from 0 in the order of their lines
+abbrev pub links_of : Topology → List Edge
+links_of topo = links_after [] topo.parts
+
+-- the host of this name
+abbrev pub seat_named : List Seat → List ℕ → Option Seat
+seat_named seats name = find (λ seat. bytes_eq seat.name name) seats
+
+-- the host with this address
+abbrev pub seat_with_address : List Seat → Address → Option Seat
+seat_with_address seats address = find (λ seat. is_same_address seat.address address) seats
+
+-- the position of the router of this name
+abbrev pub router_named : List Router → List ℕ → Option ℕ
+router_named routers name = position (λ router. bytes_eq router.name name) routers
+
+-- the position of the router with this address
+abbrev pub router_with_address : List Router → Address → Option ℕ
+router_with_address routers address = position (λ router. is_same_address router.address address) routers
+
+-- the position of the domain with this id
+abbrev pub domain_with_ad : List Domain → Id → Option ℕ
+domain_with_ad domains ad = position (λ domain. bytes_eq domain.ad.bytes ad.bytes) domains
+
+-- the address of a host, or else of a router
+abbrev pub address_of_node : Option Seat → Option Router → Option Address
+address_of_node (Some seat) router = Some seat.address
+address_of_node None (Some router) = Some router.address
+address_of_node None None = None
+
+-- the address of the host or router of this name
+abbrev pub address_named : Topology → List ℕ → Option Address
+address_named topo name =
+    address_of_node (seat_named (seats_of topo) name) (find (λ router. bytes_eq router.name name) topo.routers)
+
+-- the name of a router, if there is one
+abbrev pub name_in : Option Router → List ℕ
+name_in None = []
+name_in (Some router) = router.name
+
+-- the name of the router at a position
+abbrev pub name_at : List Router → ℕ → List ℕ
+name_at routers router = name_in (slice_get routers router)
+
+-- the other end of the first of these links that has an end at this port of the router: that router and its port
+abbrev pub far_end : List Edge → ℕ → ℕ → Option (ℕ × ℕ)
+far_end [] router port = None
+far_end (e ∷ es) router port =
+    if (e.a == router) && (e.a_port == port) then Some (e.b, e.b_port) else
+    if (e.b == router) && (e.b_port == port) then Some (e.a, e.a_port) else
+    far_end es router port
+
+-- the host that stands at this port of the router
+abbrev pub seat_at : List Seat → ℕ → ℕ → Option Seat
+seat_at seats router port = find (λ seat. (seat.router == router) && (seat.port == port)) seats
+
+-- what a frame on a port goes towards: the host there, or the other router's port; a port with nothing at it is its own
+abbrev pub target_of : List Router → Option Seat → Option (ℕ × ℕ) → ℕ → ℕ → Target
+target_of routers (Some seat) far router port = target.Host seat.name
+target_of routers None (Some far) router port = target.Port (name_at routers far.0) far.1
+target_of routers None None router port = target.Port (name_at routers router) port
+
+-- what a frame that a router puts on a port goes towards
+abbrev pub target_at : Topology → List Edge → ℕ → ℕ → Target
+target_at topo links router port =
+    target_of topo.routers (seat_at (seats_of topo) router port) (far_end links router port) router port

@@ -1,0 +1,149 @@
+-- What is written for a topology and a schedule, and how the run ends.
+use Rattle.std.specs.Prelude.{ℕ, ◌+◌, Bool, true, false, if◌then◌else◌, nat_lt, List, [], ◌∷◌, ◌++◌, length, codes, Option, Some, None, Result, Ok, Err}
+use Rattle.std.specs.List.{list_all}
+use Rattle.std.specs.Fmt.{decimal}
+use Rattle.aip_text.specs.Lines.{lines_of, is_skipped, has_carriage_return}
+use Rattle.aip_event.specs.declared.input.Input.{Input}
+use Rattle.aip_event.specs.declared.event.Event.{Event}
+use Rattle.aip_event.specs.Lines.{input_line, event_line}
+use Rattle.aip_event.specs.Reading.{input_of}
+use Rattle.aip_topo.specs.declared.topology.Router.{Router}
+use Rattle.aip_topo.specs.declared.topology.HostPart.{HostPart}
+use Rattle.aip_topo.specs.declared.topology.Part.{Part}
+use Rattle.aip_topo.specs.declared.topology.Part.TheVariants.{Host, Link}
+use Rattle.aip_topo.specs.declared.topology.Topology.{Topology}
+use Rattle.aip_topo.specs.declared.faults.TopoFault.{TopoFault}
+use Rattle.aip_topo.specs.declared.faults.TopoEnd.{TopoEnd}
+use Rattle.aip_topo.specs.declared.faults.TopoEnd.TheVariants as topo_end
+use Rattle.aip_topo.specs.Reading.{topology_of}
+use Rattle.aip_rules.specs.declared.Entry.{Entry}
+use Rattle.aip_rules.specs.declared.Entry.TheVariants.{Taken, Happened}
+use Rattle.aip_rules.specs.declared.StepFault.{StepFault}
+use Rattle.aip_rules.specs.declared.StepFault.TheVariants as fault
+use Rattle.aip_rules.specs.Step.{is_built, step_of, after_step}
+
+-- the number of a fault of a schedule line, as a refusal line writes it
+abbrev pub fault_number : StepFault → ℕ
+fault_number fault.Form = 1
+fault_number fault.Unknown = 2
+fault_number fault.NoFlight = 3
+fault_number fault.Range = 4
+fault_number fault.Keyless = 5
+fault_number fault.Many = 6
+fault_number fault.Long = 7
+
+-- the line of an entry: an input behind "> ", an event behind "< "
+abbrev pub line_of : Entry → List ℕ
+line_of (Taken input) = codes "> " ++ (input_line input ++ 10 ∷ [])
+line_of (Happened event) = codes "< " ++ (event_line event ++ 10 ∷ [])
+
+-- the text of a trace: the lines of its entries, the oldest first
+abbrev pub text_of : List Entry → List ℕ
+text_of [] = []
+text_of (entry ∷ tr) = text_of tr ++ line_of entry
+
+-- the line that ends the text where a line of the schedule is refused: "! ", its number and the fault's
+abbrev pub refusal_line : ℕ → StepFault → List ℕ
+refusal_line line f = codes "! " ++ (decimal line ++ (32 ∷ (decimal (fault_number f) ++ 10 ∷ [])))
+
+-- the most lines of a schedule
+abbrev pub most_lines : ℕ
+most_lines = 65536
+
+-- the most bytes of a line
+abbrev pub most_line_bytes : ℕ
+most_line_bytes = 20000
+
+-- a line inside the limits that isn't skipped: it is an input, or outside the grammar
+abbrev pub input_or_form : Option Input → Result (Option Input) StepFault
+input_or_form None = Err fault.Form
+input_or_form (Some input) = Ok (Some input)
+
+-- a line of a schedule by itself: the first fault of Many, Long and Form that applies, or an input, or a skipped line
+abbrev pub scheduled : ℕ → List ℕ → Result (Option Input) StepFault
+scheduled number line =
+    if nat_lt most_lines number then Err fault.Many else
+    if nat_lt most_line_bytes (length line) then Err fault.Long else
+    if has_carriage_return line then Err fault.Form else
+    if is_skipped line then Ok None else
+    input_or_form (input_of line)
+
+-- how a run ends: the schedule is done, the topology or the schedule is refused at a line for a fault, or a topology or
+-- an input is outside of what is built
+pub data Ending : Type 0 where
+  Done : Ending
+  Topology_refused : (line : ℕ) → TopoFault → Ending
+  Schedule_refused : (line : ℕ) → StepFault → Ending
+  Unbuilt : Ending
+
+-- what a schedule comes to: the trace of the inputs before its end or its first refused line, and how it ends
+pub record Ran : Type 0 where
+  pub trace : List Entry
+  pub ending : Ending
+
+-- the run goes on with the trace of a step, or ends where the step is refused
+abbrev pub by_step : List Entry → ℕ → Input → (List Entry → Ran) → Result (List Event) StepFault → Ran
+by_step tr number input go (Ok events) = go (after_step tr input events)
+by_step tr number input go (Err f) = record { trace = tr; ending = Schedule_refused number f }
+
+-- the run takes an input, and ends where it isn't built yet
+abbrev pub by_input : Topology → List Entry → ℕ → (List Entry → Ran) → Input → Ran
+by_input topo tr number go input =
+    if is_built input
+    then by_step tr number input go (step_of topo tr input)
+    else record { trace = tr; ending = Unbuilt }
+
+-- the run takes a line: it ends where the line is refused, and goes on behind a skipped line
+abbrev pub by_line : Topology → List Entry → ℕ → (List Entry → Ran) → Result (Option Input) StepFault → Ran
+by_line topo tr number go (Err f) = record { trace = tr; ending = Schedule_refused number f }
+by_line topo tr number go (Ok None) = go tr
+by_line topo tr number go (Ok (Some input)) = by_input topo tr number go input
+
+-- the run of these lines, the first of which has this number, from a trace on
+abbrev pub ran_from : Topology → List Entry → ℕ → List (List ℕ) → Ran
+ran_from topo tr number [] = record { trace = tr; ending = Done }
+ran_from topo tr number (line ∷ lines) =
+    by_line topo tr number (λ after. ran_from topo after (number + 1) lines) (scheduled number line)
+
+-- the run of a schedule over a topology
+abbrev pub ran : Topology → List ℕ → Ran
+ran topo schedule = ran_from topo [] 1 (lines_of schedule)
+
+-- a router that is open
+abbrev pub is_open : Router → Bool
+is_open router = if router.checking then false else true
+
+-- a link, or a plain host
+abbrev pub is_plain : Part → Bool
+is_plain (Host host) = if host.guarded then false else true
+is_plain (Link link) = true
+
+-- the topologies that are built: every router is open and every host is plain
+abbrev pub is_built_topology : Topology → Bool
+is_built_topology topo = if list_all is_open topo.routers then list_all is_plain topo.parts else false
+
+-- the run over what a topology text gives; nothing is run where it is refused or not built
+abbrev pub ran_over : Result Topology TopoEnd → List ℕ → Ran
+ran_over (Ok topo) schedule = if is_built_topology topo then ran topo schedule else record { trace = []; ending = Unbuilt }
+ran_over (Err (topo_end.Line line f)) schedule = record { trace = []; ending = Topology_refused line f }
+ran_over (Err topo_end.Unbuilt) schedule = record { trace = []; ending = Unbuilt }
+ran_over (Err topo_end.Memory) schedule = record { trace = []; ending = Unbuilt }
+
+-- what ends the text: a refusal line where a line of the schedule is refused
+abbrev pub ending_text : Ending → List ℕ
+ending_text (Schedule_refused line f) = refusal_line line f
+ending_text Done = []
+ending_text (Topology_refused line f) = []
+ending_text Unbuilt = []
+
+-- the text of a run: that of its trace, and the refusal line where there is one
+abbrev pub text_of_run : Ran → List ℕ
+text_of_run r = text_of r.trace ++ ending_text r.ending
+
+-- what is written for the two files
+abbrev pub output_of : List ℕ → List ℕ → List ℕ
+output_of topology schedule = text_of_run (ran_over (topology_of topology) schedule)
+
+-- how the run of the two files ends
+abbrev pub end_of : List ℕ → List ℕ → Ending
+end_of topology schedule = (ran_over (topology_of topology) schedule).ending
