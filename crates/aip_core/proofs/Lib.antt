@@ -1,0 +1,4 @@
+pub mod Early
+pub mod Joined
+pub mod LinksNow
+pub mod Stands
