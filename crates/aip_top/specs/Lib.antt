@@ -1,0 +1,5 @@
+pub mod Statuses
+pub mod Words
+pub mod Written
+pub mod Named
+pub mod Judged

@@ -1,0 +1,14 @@
+//! The commands of the program, over a shelf of texts and a sink.
+//!
+//! `aip` takes the words of a command line and answers a status. What it reads, what it writes and why it answers as it
+//! does are clauses of that one call.
+#![tactic(auto)]
+
+mod command;
+mod schedule;
+mod status;
+mod top;
+
+pub use aip_addr::Memory;
+pub use status::Status;
+pub use top::aip;

@@ -1,0 +1,55 @@
+ghost use Rattle.std.specs.Prelude.{◌≡◌};
+ghost use Rattle.aip_top.specs.Statuses.{exit_code_of};
+
+use aip_rules::StepFault;
+use aip_topo::TopoFault;
+
+/// How a command ends.
+#[derive(Clone, Copy, Debug, PartialEq, Eq)]
+pub enum Status {
+    /// All was read to its end, and the whole text was taken.
+    Done,
+    /// The words spell no command. Nothing was read or written.
+    Usage,
+    /// A named file couldn't be read.
+    ReadFault,
+    /// The sink failed.
+    WriteFault,
+    /// The topology is refused. Nothing was written.
+    Topology {
+        /// The number of the first refused line, from 1.
+        line: u32,
+        /// The first fault that applies to it.
+        fault: TopoFault,
+    },
+    /// A line of the schedule is refused. The whole text was taken, with the refusal line.
+    Schedule {
+        /// The number of the first refused line, from 1.
+        line: u32,
+        /// The first fault that applies to it.
+        fault: StepFault,
+    },
+    /// The topology, or an input of the schedule, is of a kind that isn't built yet. What was taken is the text of the
+    /// inputs before it.
+    Unbuilt,
+    /// There was no memory.
+    Memory,
+}
+
+impl Status {
+    /// The exit code of the program.
+    pub fn exit_code(self) -> u8
+        ensures { result ≡ exit_code_of self }
+    {
+        match self {
+            Status::Done => 0,
+            Status::Usage => 2,
+            Status::ReadFault => 3,
+            Status::WriteFault => 4,
+            Status::Topology { .. } => 5,
+            Status::Schedule { .. } => 6,
+            Status::Memory => 9,
+            Status::Unbuilt => 12,
+        }
+    }
+}
