@@ -1,0 +1,142 @@
+use aip_io::{File, MemShelf, MemSink};
+use aip_rules::StepFault;
+use aip_top::{Status, aip};
+use std::alloc::{AllocError, Global};
+use std::test::Fail;
+
+// One domain, one open router, two hosts.
+const TOPOLOGY: &[u8] =
+    b"domain d id 0111111111111111111111111111111111111100\nrouter r d open 0000000000000000000000000000000000000000000000000000000000000000\nhost a r plain id 01aaaaaaaaaaaaaaaaaaaaaaaaaaaaaaaaaaaa00\nhost b r plain id 01bbbbbbbbbbbbbbbbbbbbbbbbbbbbbbbbbbbb00\n";
+
+// One packet from a to b.
+const SCHEDULE: &[u8] = b"send a b 7 6869\ndeliver 0\ndeliver 1\n";
+
+// Its trace, as an independent implementation gives it.
+const TRACE: &[u8] =
+    b"> send a b 7 6869\n< put 0 r/0 0100400000000007011111111111111111111111111111111111110001bbbbbbbbbbbbbbbbbbbbbbbbbbbbbbbbbbbb00011111111111111111111111111111111111110001aaaaaaaaaaaaaaaaaaaaaaaaaaaaaaaaaaaa0000026869\n> deliver 0\n< forward r 0 1 open\n< put 1 b 01003f0000000007011111111111111111111111111111111111110001bbbbbbbbbbbbbbbbbbbbbbbbbbbbbbbbbbbb00011111111111111111111111111111111111110001aaaaaaaaaaaaaaaaaaaaaaaaaaaaaaaaaaaa0000026869\n> deliver 1\n< got b 7\n";
+
+fn file(alloc: Global, name: &str, bytes: &[u8]) -> Result<File, AllocError> {
+    Ok(File {
+        name: String::from_str(alloc, name)?,
+        bytes: Vec::from_slice(alloc, bytes)?,
+    })
+}
+
+fn files(alloc: Global, schedule: &[u8]) -> Result<Vec<File>, AllocError> {
+    let mut files = Vec::new(alloc);
+    files.push(file(alloc, "topo.txt", TOPOLOGY)?)?;
+    files.push(file(alloc, "sched.txt", schedule)?)?;
+    Ok(files)
+}
+
+fn words(alloc: Global, third: &str) -> Result<Vec<String>, AllocError> {
+    let mut words = Vec::new(alloc);
+    words.push(String::from_str(alloc, "run")?)?;
+    words.push(String::from_str(alloc, "topo.txt")?)?;
+    words.push(String::from_str(alloc, third)?)?;
+    Ok(words)
+}
+
+// A list of one number, or of none where it is 0.
+fn one(alloc: Global, number: u64) -> Result<Vec<u64>, AllocError> {
+    let mut numbers = Vec::new(alloc);
+    if number > 0 {
+        numbers.push(number)?;
+    }
+    Ok(numbers)
+}
+
+// Runs a schedule with the read and the put of these numbers failing.
+fn outcome(
+    alloc: Global,
+    schedule: &[u8],
+    read: u64,
+    put: u64,
+) -> Result<(Status, MemSink), AllocError> {
+    let mut shelf = MemShelf::new(alloc, files(alloc, schedule)?, one(alloc, read)?, 64)?;
+    let mut sink = MemSink::new(alloc, 4096, one(alloc, put)?, 100)?;
+    let status = aip(alloc, &words(alloc, "sched.txt")?, &mut shelf, &mut sink);
+    Ok((status, sink))
+}
+
+#[test]
+fn one_packet_is_written(rt: HostRuntime) -> Result<(), Fail> {
+    let (status, sink) = outcome(rt.alloc(), SCHEDULE, 0, 0)?;
+    assert_eq!(rt; status, Status::Done);
+    assert_eq!(rt; sink.taken(), TRACE);
+    Ok(())
+}
+
+#[test]
+fn each_read_fails_in_turn(rt: HostRuntime) -> Result<(), Fail> {
+    let mut faults = 0u64;
+    for read in 1..40u64 {
+        let (status, sink) = outcome(rt.alloc(), SCHEDULE, read, 0)?;
+        if status == Status::Done {
+            assert_eq!(rt; sink.taken(), TRACE);
+            faults = read - 1;
+            break;
+        }
+        assert_eq!(rt; status, Status::ReadFault);
+        assert!(rt; sink.taken().is_empty());
+    }
+    // Four pieces of 64 bytes, one of the schedule, and an end of each.
+    assert_eq!(rt; faults, 7);
+    Ok(())
+}
+
+#[test]
+fn each_put_fails_in_turn(rt: HostRuntime) -> Result<(), Fail> {
+    let mut faults = 0u64;
+    for put in 1..40u64 {
+        let (status, sink) = outcome(rt.alloc(), SCHEDULE, 0, put)?;
+        if status == Status::Done {
+            assert_eq!(rt; sink.taken(), TRACE);
+            faults = put - 1;
+            break;
+        }
+        assert_eq!(rt; status, Status::WriteFault);
+        assert!(rt; TRACE.starts_with(sink.taken()));
+    }
+    // The 465 bytes go in pieces of 100.
+    assert_eq!(rt; faults, 5);
+    Ok(())
+}
+
+#[test]
+fn bad_lines_are_refused_by_their_first_fault(rt: HostRuntime) -> Result<(), Fail> {
+    let table: [(&[u8], u32, StepFault); 12] = [
+        (b"tick 1\r\n", 1, StepFault::Form),
+        (b"#\n\n# a\rb\n", 3, StepFault::Form),
+        (b"tick  1\n", 1, StepFault::Form),
+        (b"tick 01\n", 1, StepFault::Form),
+        (b"tick 1000000000000000\n", 1, StepFault::Form),
+        (b"send a b 1 6G\n", 1, StepFault::Form),
+        (b"send A b 1 -\n", 1, StepFault::Form),
+        (b"tick 0", 1, StepFault::Range),
+        (b"tick 1\ndeliver 0\n", 2, StepFault::NoFlight),
+        (b"send q b 4294967296 -\n", 1, StepFault::Unknown),
+        (b"send a b 4294967296 -\n", 1, StepFault::Range),
+        (b"cut 0\n", 1, StepFault::Range),
+    ];
+    for (schedule, line, fault) in table {
+        let (status, _) = outcome(rt.alloc(), schedule, 0, 0)?;
+        assert_eq!(rt; status, Status::Schedule { line, fault });
+    }
+    Ok(())
+}
+
+#[test]
+fn absent_files_and_other_words(rt: HostRuntime) -> Result<(), Fail> {
+    let alloc = rt.alloc();
+    let mut shelf = MemShelf::new(alloc, files(alloc, SCHEDULE)?, Vec::new(alloc), 8)?;
+    let mut sink = MemSink::new(alloc, 4096, Vec::new(alloc), 5)?;
+    let status = aip(alloc, &words(alloc, "other.txt")?, &mut shelf, &mut sink);
+    assert_eq!(rt; status, Status::ReadFault);
+    let mut two = words(alloc, "x")?;
+    let _ = two.pop();
+    let status = aip(alloc, &two, &mut shelf, &mut sink);
+    assert_eq!(rt; status, Status::Usage);
+    assert!(rt; sink.taken().is_empty());
+    Ok(())
+}
