@@ -1,3 +1,5 @@
+use aip_core::{Core, StepEnd};
+use aip_event::Input;
 use aip_io::{File, MemShelf, MemSink};
 use aip_rules::StepFault;
 use aip_top::{Status, aip};
@@ -139,4 +141,26 @@ fn absent_files_and_other_words(rt: HostRuntime) -> Result<(), Fail> {
     assert_eq!(rt; status, Status::Usage);
     assert!(rt; sink.taken().is_empty());
     Ok(())
+}
+
+#[test]
+fn a_step_moves_the_time_and_a_refused_one_does_not(rt: HostRuntime) -> Result<(), Fail> {
+    let alloc = rt.alloc();
+    let Ok(topology) = aip_topo::read(alloc, TOPOLOGY) else {
+        return Err("a topology".into());
+    };
+    let core = Core::new(alloc, topology)?;
+    let Ok((core, events)) = core.step(alloc, Input::Tick { ticks: 5 }) else {
+        return Err("a step".into());
+    };
+    assert!(rt; events.as_slice().is_empty());
+    assert_eq!(rt; core.now(), 5);
+    match core.step(alloc, Input::Deliver { flight: 0 }) {
+        Err(StepEnd::Refused { core, fault }) => {
+            assert_eq!(rt; fault, StepFault::NoFlight);
+            assert_eq!(rt; core.now(), 5);
+            Ok(())
+        }
+        _ => Err("a refusal".into()),
+    }
 }
