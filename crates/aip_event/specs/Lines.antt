@@ -22,6 +22,7 @@ abbrev pub target_word : Target → List ℕ
 target_word (target.Port router port) = router ++ 47 ∷ decimal port
 target_word (target.Host name) = name
 
+-- the word of a cause
 abbrev pub cause_word : Cause → List ℕ
 cause_word cause.Open = codes "open"
 cause_word cause.Exempt = codes "exempt"
@@ -30,6 +31,7 @@ cause_word cause.Reverse = codes "reverse"
 cause_word cause.Proved = codes "proved"
 cause_word cause.Wild = codes "wild"
 
+-- the word of a reason
 abbrev pub reason_word : Reason → List ℕ
 reason_word reason.Bad = codes "bad"
 reason_word reason.Mine = codes "mine"
@@ -99,6 +101,7 @@ IsId id = (length id.bytes ≡ 20) × IsBytes id.bytes
 abbrev pub IsKeyId : KeyId → Type 0
 IsKeyId id = (length id.bytes ≡ 19) × IsBytes id.bytes
 
+-- a target with a name and a number of the grammar
 abbrev pub IsTarget : Target → Type 0
 IsTarget (target.Port router port) = IsName router × IsNumber port
 IsTarget (target.Host name) = IsName name

@@ -169,30 +169,39 @@ four_fields first second third fourth make rest = do
 unfoldable pub tick_of : List ℕ → Option Input
 tick_of rest = one_field number_of (λ ticks. input.Tick ticks) rest
 
+-- the input whose words behind `send` these are
 unfoldable pub send_of : List ℕ → Option Input
 send_of rest = four_fields name_of name_of number_of bytes_of (λ host node packet body. input.Send host node packet body) rest
 
+-- the input whose words behind `raw` these are
 unfoldable pub raw_of : List ℕ → Option Input
 raw_of rest = two_fields name_of bytes_of (λ host bytes. input.Raw host bytes) rest
 
+-- the input whose words behind `deliver` these are
 unfoldable pub deliver_of : List ℕ → Option Input
 deliver_of rest = one_field number_of (λ flight. input.Deliver flight) rest
 
+-- the input whose words behind `inject` these are
 unfoldable pub inject_of : List ℕ → Option Input
 inject_of rest = two_fields target_of bytes_of (λ target bytes. input.Inject target bytes) rest
 
+-- the input whose words behind `cut` these are
 unfoldable pub cut_of : List ℕ → Option Input
 cut_of rest = one_field number_of (λ link. input.Cut link) rest
 
+-- the input whose words behind `mend` these are
 unfoldable pub mend_of : List ℕ → Option Input
 mend_of rest = one_field number_of (λ link. input.Mend link) rest
 
+-- the input whose words behind `shutoff` these are
 unfoldable pub shutoff_of : List ℕ → Option Input
 shutoff_of rest = three_fields name_of number_of number_of (λ host flight ttl. input.Shutoff host flight ttl) rest
 
+-- the input whose words behind `restart` these are
 unfoldable pub restart_of : List ℕ → Option Input
 restart_of rest = one_field name_of (λ node. input.Restart node) rest
 
+-- the input whose words behind `stop` these are
 unfoldable pub stop_of : List ℕ → Option Input
 stop_of rest = three_fields name_of number_of number_of (λ host call byte. input.Stop host call byte) rest
 
@@ -223,39 +232,51 @@ input_of line = do
 unfoldable pub put_of : List ℕ → Option Event
 put_of rest = three_fields number_of target_of bytes_of (λ flight target bytes. event.Put flight target bytes) rest
 
+-- the event whose words behind `forward` these are
 unfoldable pub forward_of : List ℕ → Option Event
 forward_of rest = four_fields name_of number_of number_of cause_of (λ router in_port out_port cause. event.Forward router in_port out_port cause) rest
 
+-- the event whose words behind `ask` these are
 unfoldable pub ask_of : List ℕ → Option Event
 ask_of rest = three_fields name_of number_of number_of (λ router in_port out_port. event.Ask router in_port out_port) rest
 
+-- the event whose words behind `proved` these are
 unfoldable pub proved_of : List ℕ → Option Event
 proved_of rest = three_fields name_of address_of_word number_of (λ router source port. event.Proved router source port) rest
 
+-- the event whose words behind `wild` these are
 unfoldable pub wild_of : List ℕ → Option Event
 wild_of rest = three_fields name_of id_of_word number_of (λ router ad port. event.Wild router ad port) rest
 
+-- the event whose words behind `refuse` these are
 unfoldable pub refuse_of : List ℕ → Option Event
 refuse_of rest = two_fields name_of number_of (λ router number. event.Refuse router number) rest
 
+-- the event whose words behind `drop` these are
 unfoldable pub drop_of : List ℕ → Option Event
 drop_of rest = two_fields name_of reason_of (λ node reason. event.Drop node reason) rest
 
+-- the event whose words behind `got` these are
 unfoldable pub got_of : List ℕ → Option Event
 got_of rest = two_fields name_of number_of (λ host packet. event.Got host packet) rest
 
+-- the event whose words behind `signed` these are
 unfoldable pub signed_of : List ℕ → Option Event
 signed_of rest = two_fields name_of number_of (λ host leaf. event.Signed host leaf) rest
 
+-- the event whose words behind `stopped` these are
 unfoldable pub stopped_of : List ℕ → Option Event
 stopped_of rest = four_fields name_of number_of number_of number_of (λ host leaf call byte. event.Stopped host leaf call byte) rest
 
+-- the event whose words behind `withheld` these are
 unfoldable pub withheld_of : List ℕ → Option Event
 withheld_of rest = two_fields name_of key_id_of_word (λ host to. event.Withheld host to) rest
 
+-- the event whose words behind `obeyed` these are
 unfoldable pub obeyed_of : List ℕ → Option Event
 obeyed_of rest = three_fields name_of key_id_of_word number_of (λ host sender until. event.Obeyed host sender until) rest
 
+-- the event whose words behind `heard` these are
 unfoldable pub heard_of : List ℕ → Option Event
 heard_of rest = two_fields name_of number_of (λ host number. event.Heard host number) rest
 
