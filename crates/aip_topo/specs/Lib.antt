@@ -2,6 +2,5 @@ pub mod Faults
 pub mod Steps
 pub mod Lines
 pub mod Reading
-pub mod Ports
 pub mod Canonical
 pub mod Sound
