@@ -42,7 +42,6 @@ frame_at_router topo links number router self port (Some frame) =
     passed topo links number router self port frame
 
 -- what happens where these bytes arrive at a port of a router, over the links as they are, where the next flight has
--- this number. Every router is open: what a checking router does is
--- still to come, and no topology that is run has one.
+-- this number. Every router is open: what a checking router does is still to come, and no topology that is run has one.
 abbrev pub at_router : Topology → List Edge → ℕ → ℕ → Router → ℕ → List ℕ → List Event
 at_router topo links number router self port bytes = frame_at_router topo links number router self port (frame_of bytes)
