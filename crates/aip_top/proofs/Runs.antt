@@ -3,6 +3,7 @@ use Rattle.std.proofs.Common.{◌≡◌, ◌≢◌, ℕ, Bool, true, false, cond
 use Rattle.std.specs.Prelude.{IfSome, Result, option_map}
 use Rattle.aip_io.specs.Sink.{and_then, TookPart}
 use Rattle.aip_topo.specs.declared.topology.Topology.{Topology}
+use Rattle.aip_topo.specs.declared.faults.TopoFault.{TopoFault}
 use Rattle.aip_topo.specs.declared.faults.TopoEnd.{TopoEnd}
 use Rattle.aip_topo.specs.declared.faults.TopoEnd.TheVariants as topo_end
 use Rattle.aip_topo.specs.Reading.{topology_of}
@@ -11,6 +12,9 @@ use Rattle.aip_rules.specs.Texts as texts
 use Rattle.aip_top.specs.declared.status.Status.{Status}
 use Rattle.aip_top.specs.declared.status.Status.TheVariants as status
 use Rattle.aip_top.specs.declared.command.RunFiles.{RunFiles}
+use Rattle.aip_top.specs.declared.schedule.Ended.{Ended}
+use Rattle.aip_top.specs.declared.schedule.Ended.TheVariants as ended
+use Rattle.aip_top.specs.Written.{ending_of}
 use Rattle.aip_top.specs.Words.{Files}
 use Rattle.aip_top.specs.Named.{named}
 use Rattle.aip_top.specs.Statuses.{status_of, IsCutShort}
@@ -186,3 +190,27 @@ of_none q P e = subst (λ o. IfSome o P) (sym e) tt
 -- there are files, or there are none
 pub not_both : (q : Option Files) (files : Files) → q ≡ Some files → q ≡ None → ⊥
 not_both q files e h = cc
+
+-- how a schedule ends is no refused topology
+not_topology : (e : Ended) (line : ℕ) (fault : TopoFault) → status_of (ending_of e) ≡ status.Topology line fault → ⊥
+not_topology ended.Done line fault h = cc
+not_topology (ended.Refused n f) line fault h = cc
+not_topology ended.Unbuilt line fault h = cc
+
+-- after a write no topology was refused
+wrote_other : (e : Ended) (r : Status) (line : ℕ) (fault : TopoFault) → (r ≡ status.WriteFault) ⊎ (r ≡ status_of (ending_of e)) → r ≡ status.Topology line fault → ⊥
+wrote_other e r line fault (inl p) q = cc
+wrote_other e r line fault (inr p) q = not_topology e line fault (sym p ∙ q)
+
+-- after a write: where the answer is a refused topology, the topology is refused so
+pub wrote_judged : (t : Option (List ℕ)) (e : Ended) (r : Status) → (r ≡ status.WriteFault) ⊎ (r ≡ status_of (ending_of e))
+    → IfSome t (λ told. (line : ℕ) (fault : TopoFault) → r ≡ status.Topology line fault → topology_end (topology_of told) ≡ Some (status.Topology line fault))
+wrote_judged None e r p = tt
+wrote_judged (Some told) e r p = λ line fault q. absurd (wrote_other e r line fault p q)
+
+-- before a write: the same
+pub ended_judged : (t : Option (List ℕ)) (r : Status) → IsEnded t r
+    → IfSome t (λ told. (line : ℕ) (fault : TopoFault) → r ≡ status.Topology line fault → topology_end (topology_of told) ≡ Some (status.Topology line fault))
+ended_judged None r h = tt
+ended_judged (Some told) r (inl h) = λ line fault q. absurd (subst IsCutShort q h)
+ended_judged (Some told) r (inr h) = λ line fault q. h ∙ ap Some q

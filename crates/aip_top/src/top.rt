@@ -1,8 +1,9 @@
 // The top call, and the run of two files.
-ghost use Rattle.std.specs.Prelude.{◌≡◌, ◌↔◌, ◌≢◌, ◌⊎◌, ℕ, List, None, map, string_bytes, take, vec_len, IfSome, IfOk, IfErr, IsTrue, OnOk, OnErr};
+ghost use Rattle.std.specs.Prelude.{◌≡◌, ◌↔◌, ◌≢◌, ◌⊎◌, ℕ, List, None, Some, map, string_bytes, take, vec_len, IfSome, IfOk, IfErr, IsTrue, OnOk, OnErr};
 ghost use Rattle.aip_io.specs.Causes.{Rose};
 ghost use Rattle.aip_io.specs.Sink.{and_then, TookPart};
 ghost use Rattle.std.specs.List.{list_all};
+ghost use Rattle.aip_topo.specs.declared.faults.TopoFault.{TopoFault};
 ghost use Rattle.aip_topo.specs.Sound.{IsSound};
 ghost use Rattle.aip_topo.specs.Reading.{topology_of};
 ghost use Rattle.aip_rules.specs.Texts.{end_of, output_of, ran, text_of_run, is_open, is_plain, is_built_topology};
@@ -130,7 +131,8 @@ fn prepare<S: Shelf>(
     ensures open { IfOk result (λ w. IfSome (S.text shelf.old topology.now) (λ told. topology_end (topology_of told) ≡ None)) }
     ensures ended { IfErr result (λ end. IfSome (S.text shelf.old topology.now) (λ told. IsCutShort end ⊎ (topology_end (topology_of told) ≡ Some end))) }
     ensures topology { IfErr result (λ end. IfSome (S.text shelf.old topology.now) (λ told. IfSome (topology_end (topology_of told)) (λ expected.
-        (end ≡ expected) ⊎ ((end ≡ Status.Memory) ⊎ Rose (S.faults shelf.old topology.now) (S.faults shelf.new topology.now))))) }
+        (end ≡ expected) ⊎ ((end ≡ Status.Memory)
+        ⊎ ((end ≡ Status.ReadFault) × Rose (S.faults shelf.old topology.now) (S.faults shelf.new topology.now)))))) }
     ensures read_fault { IfErr result (λ end. end ≡ Status.ReadFault → Rose (S.faults shelf.old topology.now) (S.faults shelf.new topology.now)
         ⊎ Rose (S.faults shelf.old schedule.now) (S.faults shelf.new schedule.now)) }
     ensures named { IfErr result (λ end. (end ≢ Status.Usage) × (end ≢ Status.WriteFault)) }
@@ -163,7 +165,10 @@ fn run<S: Shelf, K: Sink>(
     out: &mut K,
 ) -> Status
     ensures topology { IfSome (S.text shelf.old topology.now) (λ told. IfSome (topology_end (topology_of told)) (λ expected.
-        (out.new ≡ out.old) × ((result ≡ expected) ⊎ ((result ≡ Status.Memory) ⊎ Rose (S.faults shelf.old topology.now) (S.faults shelf.new topology.now))))) }
+        (out.new ≡ out.old) × ((result ≡ expected) ⊎ ((result ≡ Status.Memory)
+        ⊎ ((result ≡ Status.ReadFault) × Rose (S.faults shelf.old topology.now) (S.faults shelf.new topology.now)))))) }
+    ensures judged { IfSome (S.text shelf.old topology.now) (λ told. (line : ℕ) (fault : TopoFault) → result ≡ Status.Topology line fault
+        → topology_end (topology_of told) ≡ Some (Status.Topology line fault)) }
     ensures end { IfSome (S.text shelf.old topology.now) (λ told. IfSome (S.text shelf.old schedule.now) (λ lines.
         IsCutShort result ⊎ (result ≡ status_of (end_of told lines)))) }
     ensures taken { IfSome (S.text shelf.old topology.now) (λ told. IfSome (S.text shelf.old schedule.now) (λ lines.
@@ -198,7 +203,10 @@ pub fn aip<S: Shelf, K: Sink>(alloc: Global, words: &[String], shelf: &mut S, ou
     // A topology text that ends every run ends this one, whatever the schedule's file and the sink do.
     ensures topology { IfSome (run_files (map string_bytes words.now)) (λ files. IfSome (S.text shelf.old files.topology) (λ topology.
         IfSome (topology_end (topology_of topology)) (λ expected. (out.new ≡ out.old) × ((result ≡ expected)
-        ⊎ ((result ≡ Status.Memory) ⊎ Rose (S.faults shelf.old files.topology) (S.faults shelf.new files.topology)))))) }
+        ⊎ ((result ≡ Status.Memory)
+        ⊎ ((result ≡ Status.ReadFault) × Rose (S.faults shelf.old files.topology) (S.faults shelf.new files.topology))))))) }
+    ensures judged { IfSome (run_files (map string_bytes words.now)) (λ files. IfSome (S.text shelf.old files.topology) (λ topology.
+        (line : ℕ) (fault : TopoFault) → result ≡ Status.Topology line fault → topology_end (topology_of topology) ≡ Some (Status.Topology line fault))) }
 
     // Where the texts are told, every other answer is the one that the rules give for them, and what was taken is the
     // whole text; a fault or want of memory leaves a first part of it.

@@ -28,6 +28,16 @@ returns-in-Some-clause-topology g c =
     let found : run_files (map string_bytes c.args.words.now) ≡ Some (named c.in-Some.files) = found_files c.run_files.result _ c.in-Some.files c.run_files.ensures c.in-Some.is in
     of_files _ _ _ found (rw c.as_str-topology.ensures.value at c.run.ensures.topology)
 
+pub returns-in-Some-clause-judged : goal.returns-in-Some-clause-judged
+returns-in-Some-clause-judged g c =
+    let found : run_files (map string_bytes c.args.words.now) ≡ Some (named c.in-Some.files) = found_files c.run_files.result _ c.in-Some.files c.run_files.ensures c.in-Some.is in
+    of_files _ _ _ found (rw c.as_str-topology.ensures.value at c.run.ensures.judged)
+
+pub returns-in-None-clause-judged : goal.returns-in-None-clause-judged
+returns-in-None-clause-judged g c =
+    let none : run_files (map string_bytes c.args.words.now) ≡ None = no_files c.run_files.result _ c.run_files.ensures c.in-None.is in
+    of_none _ _ none
+
 pub returns-in-Some-clause-end : goal.returns-in-Some-clause-end
 returns-in-Some-clause-end g c =
     let found : run_files (map string_bytes c.args.words.now) ≡ Some (named c.in-Some.files) = found_files c.run_files.result _ c.in-Some.files c.run_files.ensures c.in-Some.is in

@@ -1,5 +1,5 @@
 use Rattle.aip_top.specs.Written.{ending_of}
-use Rattle.aip_top.proofs.Runs.{no_end, wrote_end, wrote_taken, wrote_prefix, wrote_read, wrote_named, ended_end, ended_taken, ended_prefix, ended_topology}
+use Rattle.aip_top.proofs.Runs.{no_end, wrote_end, wrote_taken, wrote_prefix, wrote_read, wrote_named, ended_end, ended_taken, ended_prefix, ended_topology, wrote_judged, ended_judged}
 use Rattle.aip_top.proofs.top.run.Goals as goal
 
 pub returns-in-Ok-clause-topology : goal.returns-in-Ok-clause-topology
@@ -43,3 +43,9 @@ returns-in-Err-clause-write_fault g c = λ e. absurd (c.in-Err.ensures.named.1 e
 
 pub returns-in-Err-clause-named : goal.returns-in-Err-clause-named
 returns-in-Err-clause-named g c = c.in-Err.ensures.named.0
+
+pub returns-in-Ok-clause-judged : goal.returns-in-Ok-clause-judged
+returns-in-Ok-clause-judged g c = wrote_judged (g.S.Shelf.text c.args.shelf.now c.args.topology.now) c.in-Ok.written.end c.put_written.result c.put_written.ensures.end
+
+pub returns-in-Err-clause-judged : goal.returns-in-Err-clause-judged
+returns-in-Err-clause-judged g c = ended_judged (g.S.Shelf.text c.args.shelf.now c.args.topology.now) c.in-Err.end c.in-Err.ensures.ended
