@@ -11,8 +11,8 @@ use Rattle.aip_rules.specs.declared.Seat.{Seat}
 use Rattle.aip_rules.specs.Nodes.{is_same_address}
 use Rattle.aip_rules.specs.Router.{dropped}
 
--- a frame of this kind, to the host: data is received. Every host is plain and has no key: it is mute at a challenge,
--- and what a challenge names is still to come; no input that is built makes a frame of another kind than data.
+-- a frame of this kind, to the host: data is received. Every host is plain. What a host with a key answers, and what a
+-- challenge names, are still to come: no input that is built makes a frame of another kind than data.
 abbrev pub kind_at_host : Seat → Frame → Kind → List Event
 kind_at_host seat frame Data = Got seat.name frame.packet ∷ []
 kind_at_host seat frame Challenge = dropped seat.name reason.Mute

@@ -126,7 +126,6 @@ is_built_topology topo = if list_all is_open topo.routers then list_all is_plain
 abbrev pub ran_over : Result Topology TopoEnd → List ℕ → Ran
 ran_over (Ok topo) schedule = if is_built_topology topo then ran topo schedule else record { trace = []; ending = Unbuilt }
 ran_over (Err (topo_end.Line line f)) schedule = record { trace = []; ending = Topology_refused line f }
-ran_over (Err topo_end.Unbuilt) schedule = record { trace = []; ending = Unbuilt }
 ran_over (Err topo_end.Memory) schedule = record { trace = []; ending = Unbuilt }
 
 -- what ends the text: a refusal line where a line of the schedule is refused
