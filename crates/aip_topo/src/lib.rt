@@ -15,10 +15,10 @@ mod topology;
 mod writing;
 
 pub use faults::{TopoEnd, TopoFault};
-pub use lines::{Line, Setting};
+pub use lines::{Line, Origin, Setting};
 pub use lists::{Domains, Parts, Routers};
 pub use reading::read;
-pub use steps::{Draft, Entry};
+pub use steps::{Draft, Entry, Found};
 pub use topology::{Domain, HostPart, Key, LinkPart, Part, Router, Settings, Topology};
 pub use writing::write;
 

@@ -19,10 +19,6 @@ fn refusal(alloc: Global, text: &[u8]) -> Option<(u32, u64)> {
     }
 }
 
-fn is_unbuilt(alloc: Global, text: &[u8]) -> bool {
-    matches!(read(alloc, text), Err(TopoEnd::Unbuilt))
-}
-
 #[test]
 fn a_small_network_is_read_and_written(rt: HostRuntime) -> Result<(), Fail> {
     let network = read(rt.alloc(), SMALL)?;
@@ -33,7 +29,8 @@ fn a_small_network_is_read_and_written(rt: HostRuntime) -> Result<(), Fail> {
     let again = read(rt.alloc(), text.as_slice())?;
     assert_eq!(rt; again.settings, network.settings);
     assert_eq!(rt; again.routers.as_slice(), network.routers.as_slice());
-    assert_eq!(rt; again.parts.as_slice(), network.parts.as_slice());
+    let same = write(rt.alloc(), &again)?;
+    assert_eq!(rt; same.as_slice(), SMALL_WHOLE);
     Ok(())
 }
 
@@ -196,23 +193,5 @@ fn lines_that_are_too_long(rt: HostRuntime) -> Result<(), Fail> {
     let feeds = vec![in rt.alloc(); 10; 1_048_577]?;
     assert_eq!(rt; refusal(rt.alloc(), &feeds), Some((1_048_577, 7)));
     assert!(rt; read(rt.alloc(), &feeds[1..]).is_ok());
-    Ok(())
-}
-
-#[test]
-fn keys_from_seeds_are_not_built(rt: HostRuntime) -> Result<(), Fail> {
-    assert!(rt;
-        is_unbuilt(
-            rt.alloc(),
-            b"domain d seed W4 H5 0000000000000000000000000000000000000000000000000000000000000000\nset cache 0\n"
-        )
-    );
-    assert_eq!(rt;
-        refusal(
-            rt.alloc(),
-            b"set cache 0\ndomain d seed W4 H5 0000000000000000000000000000000000000000000000000000000000000000\n"
-        ),
-        Some((1, 4))
-    );
     Ok(())
 }
