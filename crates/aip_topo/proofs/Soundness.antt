@@ -90,8 +90,8 @@ found_meets draft (line.Set s value) f fits met =
 found_meets draft (line.Domain name from) f fits met =
     let t = draft.topology in
     meets_same t (found.Domain name from) f (same_Some _ _ met.found) met.ranged (λ ranged.
-      let may = ad_may from ranged in
-      ((fits.0, origin_sized from fits.1 may, origin_version from may, origin_alone from ranged, origin_id from fits.1), (leb-false _ _ met.few, met.once)))
+    let may = ad_may from ranged in
+    ((fits.0, origin_sized from fits.1 may, origin_version from may, origin_alone from ranged, origin_id from fits.1), (leb-false _ _ met.few, met.once)))
 found_meets draft (line.Router name domain checking master) f fits met =
     let t = draft.topology in
     let place = chained _ (domain_place domain t.domains) f met.found in

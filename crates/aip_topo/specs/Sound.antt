@@ -72,7 +72,8 @@ names_of t = map (λ domain. domain.name) t.domains ++ (map (λ router. router.n
 abbrev pub IsInRange : Setting × ℕ → Type 0
 IsInRange pair = is_out_of_range (found.Set pair.0 pair.1) ≡ false
 
--- a key that was made has a seed of 32 bytes, and the id is that of its public key, with the interface that the id itself has; an id that was given may be any
+-- a key that was made has a seed of 32 bytes, and the id is that of its public key, with the interface that the id
+-- itself has; an id that was given may be any
 abbrev pub IsIdOf : Key → Id → Type 0
 IsIdOf key.Given id = Unit {0}
 IsIdOf (key.Made k) id = IsSized 32 k.seed × (id ≡ id_of_key (public_key_of k) (slice_index id.bytes 19))
@@ -80,21 +81,26 @@ IsIdOf (key.Made k) id = IsSized 32 k.seed × (id ≡ id_of_key (public_key_of k
 -- a domain with a name and an id that is in range, which is its key's
 abbrev pub IsDomain : Domain → Type 0
 IsDomain domain =
-    IsName domain.name × IsSized 20 domain.ad.bytes × (has_version_0 domain.ad ≡ false) × (has_interface domain.ad ≡ false) × IsIdOf domain.key domain.ad
+    IsName domain.name × IsSized 20 domain.ad.bytes × (has_version_0 domain.ad ≡ false)
+    × (has_interface domain.ad ≡ false) × IsIdOf domain.key domain.ad
 
 -- a router of one of the domains, with that domain's id and the id of its own name
 abbrev pub IsRouterOf : List Domain → Router → Type 0
 IsRouterOf domains router =
     IsName router.name × IsSized 32 router.master × (ad_at router.domain domains ≡ Some router.address.ad) × (router.address.eid ≡ id_of_router router.name)
 
--- a host at one of so many routers, with an id that is in range, which is its key's; or a link of two of the routers, from one to another
+-- a host at one of so many routers, with an id that is in range, which is its key's; or a link from one of the
+-- routers to another
 abbrev pub IsPartOf : ℕ → Part → Type 0
 IsPartOf routers (part.Host host) =
-    IsName host.name × IsSized 20 host.eid.bytes × (host.router < routers) × (has_version_0 host.eid ≡ false) × IsIdOf host.key host.eid
+    IsName host.name × IsSized 20 host.eid.bytes × (host.router < routers) × (has_version_0 host.eid ≡ false)
+    × IsIdOf host.key host.eid
 IsPartOf routers (part.Link link) =
     (link.a < routers) × (link.b < routers) × ((link.a == link.b) ≡ false)
 
--- a topology that has no more of a kind than there may be, whose settings, ids and positions are in range, whose made keys own their ids, and in which no two have one name, no two domains or routers one id, no two hosts one key identifier, and no two keys one identifier
+-- a topology that has no more of a kind than there may be, whose settings, ids and places are in range, whose made
+-- keys own their ids, and in which no two have one name, no two domains or routers one id, no two hosts one key
+-- identifier, and no two keys one identifier
 pub record IsSound (t : Topology) : Type 0 where
   pub few_domains : length t.domains ≤ 64
   pub few_routers : length t.routers ≤ 256

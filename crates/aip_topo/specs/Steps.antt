@@ -184,7 +184,8 @@ abbrev pub made : Found → Entry
 made (found.Set s value) = entry.Set s value
 made (found.Domain name from) = entry.Domain (record { name = name; ad = id_from from; key = key_of from })
 made (found.Router router) = entry.Router router
-made (found.Host name router guarded from) = entry.Part (part.Host (record { name = name; router = router; guarded = guarded; eid = id_from from; key = key_of from }))
+made (found.Host name router guarded from) =
+    entry.Part (part.Host (record { name = name; router = router; guarded = guarded; eid = id_from from; key = key_of from }))
 made (found.Link link) = entry.Part (part.Link link)
 
 -- the domain has this id
@@ -218,9 +219,11 @@ is_host_identified id (part.Link _) = false
 abbrev pub is_key_taken : Topology → Key → Bool
 is_key_taken t key.Given = false
 is_key_taken t (key.Made k) =
-    list_any (is_domain_identified (identifier_of k.seed)) t.domains || list_any (is_host_identified (identifier_of k.seed)) t.parts
+    list_any (is_domain_identified (identifier_of k.seed)) t.domains
+    || list_any (is_host_identified (identifier_of k.seed)) t.parts
 
--- a domain with the id of another, a router with the id of another, a host with the key identifier of another, a key with the identifier of another
+-- a domain with the id of another, a router with the id of another, a host with the key identifier of another, a key
+-- with the identifier of another
 abbrev pub is_twin : Topology → Entry → Bool
 is_twin t (entry.Set _ _) = false
 is_twin t (entry.Domain domain) = list_any (has_ad domain.ad) t.domains || is_key_taken t domain.key
@@ -246,7 +249,8 @@ given_with given (entry.Part _) = given
 abbrev pub draft_with : Draft → Entry → Draft
 draft_with draft e = record { topology = with_entry draft.topology e; given = given_with draft.given e }
 
--- what is made of what was found for a line, unless it is out of range or the twin of another; Unknown where nothing was found
+-- what is made of what was found for a line, unless it is out of range or the twin of another; Unknown where nothing
+-- was found
 abbrev pub judged : Topology → Option Found → Result Entry TopoFault
 judged t None = Err fault.Unknown
 judged t (Some f) = if is_out_of_range f then Err fault.Range else if is_twin t (made f) then Err fault.Twin else Ok (made f)

@@ -2,7 +2,8 @@
 //! and written to it.
 //!
 //! A text is a line for each of these. The first line that is refused ends the reading, with the
-//! first fault that applies to it.
+//! first fault that applies to it. A domain or a host is given by its id, or by the seed of its key:
+//! then the tree of the key is built, and the id is that of the public key.
 #![tactic(auto)]
 
 mod faults;

@@ -19,8 +19,8 @@ const LONGEST_LINE: usize = 20_000;
 /// The most bytes of a text that are read, line feeds included.
 const LONGEST_TEXT: usize = 1_048_576;
 
-/// The topology that the text gives. A refusal names the first line that is refused, with the first
-/// fault that applies to it.
+/// The topology that the text gives, with the trees of the keys that its seeds make. A refusal names
+/// the first line that is refused, with the first fault that applies to it.
 pub fn read(alloc: Global, text: &[u8]) -> Result<Topology, TopoEnd>
     ensures found { IfOk result (λ topology. topology_of text.now ≡ Ok topology) }
     ensures sound { IfOk result IsSound }
