@@ -14,11 +14,11 @@ use Rattle.aip_addr.specs.Ids.{id_of_router}
 use Rattle.aip_addr.specs.Naming.{IsName}
 use Rattle.aip_addr.specs.declared.ids.Id.{Id}
 use Rattle.aip_text.specs.Lines.{lines_of}
-use Rattle.aip_topo.specs.Canonical.{canonical_text, domain_text, guard_word, hex_end, kind_word, part_text, router_name, router_text, set_text, settings_text, trust_word, value_text, values_of, words}
+use Rattle.aip_topo.specs.Canonical.{canonical_text, domain_text, eid_text, guard_word, hex_end, kind_word, part_text, router_name, router_text, set_text, settings_text, trust_word, value_text, values_of, words}
 use Rattle.aip_topo.specs.Lines.{setting_word}
 use Rattle.aip_topo.specs.Reading.{empty_draft, finished, topology_of, with_lines}
-use Rattle.aip_topo.specs.Sound.{AreDistinct, IsDomain, IsInRange, IsPartOf, IsRouterOf, IsSound, host_key_ids, host_names}
-use Rattle.aip_topo.specs.Steps.{ad_at, domain_place, has_ad, has_eid, has_key_id, is_host, is_link, most_of, names_domain, names_host, names_router, router_place, was_set}
+use Rattle.aip_topo.specs.Sound.{AreDistinct, IsDomain, IsInRange, IsPartOf, IsRouterOf, IsSound, domain_identifiers, host_identifiers, host_key_ids, host_names, identifiers_in}
+use Rattle.aip_topo.specs.Steps.{ad_at, domain_place, has_ad, has_eid, has_key_id, is_host, is_key_taken, is_link, is_twin, key_of, made, most_of, names_domain, names_host, names_router, router_place, was_set}
 use Rattle.aip_topo.specs.declared.faults.TopoEnd.{TopoEnd}
 use Rattle.aip_topo.specs.declared.lines.Line.TheVariants as form
 use Rattle.aip_topo.specs.declared.lines.Setting.{Setting}
@@ -26,44 +26,22 @@ use Rattle.aip_topo.specs.declared.lines.Setting.TheVariants as setting
 use Rattle.aip_topo.specs.declared.steps.Draft.{Draft}
 use Rattle.aip_topo.specs.declared.steps.Entry.{Entry}
 use Rattle.aip_topo.specs.declared.steps.Entry.TheVariants as entry
+use Rattle.aip_topo.specs.declared.steps.Found.{Found}
+use Rattle.aip_topo.specs.declared.steps.Found.TheVariants as found
 use Rattle.aip_topo.specs.declared.topology.Domain.{Domain}
 use Rattle.aip_topo.specs.declared.topology.HostPart.{HostPart}
 use Rattle.aip_topo.specs.declared.topology.Key.{Key}
-use Rattle.aip_topo.specs.declared.topology.Key.TheVariants as key
 use Rattle.aip_topo.specs.declared.topology.LinkPart.{LinkPart}
 use Rattle.aip_topo.specs.declared.topology.Part.{Part}
 use Rattle.aip_topo.specs.declared.topology.Part.TheVariants as part
 use Rattle.aip_topo.specs.declared.topology.Router.{Router}
 use Rattle.aip_topo.specs.declared.topology.Settings.{Settings}
 use Rattle.aip_topo.specs.declared.topology.Topology.{Topology}
+use Rattle.aip_topo.proofs.Keys.{ad_again, ad_key_again, ad_origin, ad_ranged, domain_identifiers_split, eid_again, eid_key_again, eid_origin, eid_ranged, host_identifiers_split, key_alone}
 use Rattle.aip_topo.proofs.Placing.{all_at, all_middle, back_distinct, before_middle, front_distinct, place_again, there_is}
 use Rattle.aip_topo.proofs.Running.{Along, Reaches, Taken, after, reach_all, reach_then}
 use Rattle.aip_topo.proofs.Soundness.{any_host_name, any_key_id, any_map, mapped}
-use Rattle.aip_topo.proofs.Spelling.{IsShown, domain_again, domain_spelled, hex_shown, host_again, host_spelled, link_again, link_spelled, name_shown, number_shown, router_again, router_spelled, set_again, set_spelled, then_word, word_shown}
-
--- ## Words
-
--- what follows the last word of words that are followed by others
-ends : (word rest tail : List ℕ) → then_word word rest ++ tail ≡ then_word word (rest ++ tail)
-ends word rest tail = append_assoc word (32 ∷ rest) tail
-
-ends_two : (a b rest tail : List ℕ) → then_word a (then_word b rest) ++ tail ≡ then_word a (then_word b (rest ++ tail))
-ends_two a b rest tail = ends a (then_word b rest) tail ∙ ap (then_word a) (ends b rest tail)
-
-ends_three : (a b c rest tail : List ℕ) → then_word a (then_word b (then_word c rest)) ++ tail ≡ then_word a (then_word b (then_word c (rest ++ tail)))
-ends_three a b c rest tail = ends a (then_word b (then_word c rest)) tail ∙ ap (then_word a) (ends_two b c rest tail)
-
-ends_four : (a b c d rest tail : List ℕ) → then_word a (then_word b (then_word c (then_word d rest))) ++ tail ≡ then_word a (then_word b (then_word c (then_word d (rest ++ tail))))
-ends_four a b c d rest tail = ends a (then_word b (then_word c (then_word d rest))) tail ∙ ap (then_word a) (ends_three b c d rest tail)
-
-ends_five : (a b c d e rest tail : List ℕ) → then_word a (then_word b (then_word c (then_word d (then_word e rest)))) ++ tail ≡ then_word a (then_word b (then_word c (then_word d (then_word e (rest ++ tail)))))
-ends_five a b c d e rest tail = ends a (then_word b (then_word c (then_word d (then_word e rest)))) tail ∙ ap (then_word a) (ends_four b c d e rest tail)
-
-words_then : (a b c rest : List ℕ) → words a b c ++ rest ≡ then_word a (then_word b (c ++ rest))
-words_then a b c rest = append_assoc a (32 ∷ (b ++ (32 ∷ c))) rest ∙ ap (then_word a) (append_assoc b (32 ∷ c) rest)
-
-shown_more : (m n : ℕ) (text : List ℕ) → m ≤ n → IsShown m text → IsShown n text
-shown_more m n text up h = record { printed = h.printed; short = omega (arith, h.short, up) }
+use Rattle.aip_topo.proofs.Spelling.{IsShown, ad_ends, ad_shown, ad_spelled, domain_again, domain_spelled, eid_ends, eid_shown, eid_spelled, ends_four, ends_two, hex_shown, host_again, host_spelled, link_again, link_spelled, name_shown, number_shown, router_again, router_spelled, set_again, set_spelled, shown_more, then_word, word_shown, words_then}
 
 -- ## Drafts
 
@@ -138,7 +116,8 @@ set_taken draft s value new ranged =
           (word_shown 3 25 (codes "set") _ keyword (word_shown 9 15 (setting_word s) (decimal value) (setting_shown s) (number_shown value small)));
       seen = refl;
       spelled = set_again s value small;
-      known = refl;
+      gives = found.Set s value;
+      makes = refl;
       met = record { few = refl; once = new; found = refl; ranged = ranged; alone = refl };
     }
 
@@ -168,33 +147,36 @@ settings_along s k = (
 
 -- ## Domains
 
-given_key : (k : Key) → key.Given ≡ k
-given_key key.Given = refl
+abbrev made_domain : List ℕ → Id → Key → Entry
+made_domain name ad k = entry.Domain (record { name = name; ad = ad; key = k })
 
-domain_taken : (s : Settings) (ds : List Domain) (x : Domain) → length ds < 64 → list_any (names_domain x.name) ds ≡ false → list_any (has_ad x.ad) ds ≡ false → IsDomain x
-    → Taken (stage s ds [] []) (domain_text x) (entry.Domain x)
-domain_taken s ds x few new alone stands =
+domain_taken : (s : Settings) (ds : List Domain) (x : Domain) → length ds < 64 → list_any (names_domain x.name) ds ≡ false → list_any (has_ad x.ad) ds ≡ false
+    → is_key_taken (stage s ds [] []).topology x.key ≡ false → IsDomain x → Taken (stage s ds [] []) (domain_text x) (entry.Domain x)
+domain_taken s ds x few new other untaken stands =
     let keyword : IsShown 6 (codes "domain") = record { printed = refl; short = lit≤ tt } in
-    let id_word : IsShown 2 (codes "id") = record { printed = refl; short = lit≤ tt } in
-    let hex = encode_lower x.ad.bytes in
-    let made : Key → Option Entry = λ k. Some (entry.Domain (record { name = x.name; ad = x.ad; key = k })) in
+    let spelled = ad_spelled x.key x.ad in
+    let from = ad_origin x.key x.ad in
+    let front : List ℕ → List ℕ = λ l. then_word (codes "domain") (then_word x.name l) in
+    let same : made (found.Domain x.name from) ≡ entry.Domain x =
+    ap (λ id. made_domain x.name id (key_of from)) (ad_again x.key x.ad stands.4 stands.3) ∙ ap (made_domain x.name x.ad) (ad_key_again x.key x.ad) in
     record {
-      line = domain_spelled x.name x.ad.bytes;
-      says = form.Domain x.name x.ad;
-      whole = words_then (codes "domain") x.name (codes "id") (hex_end x.ad.bytes) ∙ sym (ends_three (codes "domain") x.name (codes "id") hex (10 ∷ []));
+      line = domain_spelled x.name x.key x.ad;
+      says = form.Domain x.name from;
+      whole = ap front (ad_ends x.key x.ad) ∙ sym (ends_two (codes "domain") x.name spelled (10 ∷ []));
       shown =
-          shown_more 67 191 _ (lit≤ tt)
-          (word_shown 6 60 (codes "domain") _ keyword (word_shown 16 43 x.name _ (name_shown x.name stands.0) (word_shown 2 40 (codes "id") hex id_word (hex_shown 20 x.ad.bytes stands.1))));
+          shown_more 116 191 _ (lit≤ tt)
+          (word_shown 6 109 (codes "domain") _ keyword (word_shown 16 92 x.name _ (name_shown x.name stands.0) (ad_shown x.key x.ad stands.1 stands.4)));
       seen = refl;
-      spelled = domain_again x.name x.ad stands.0 stands.1;
-      known = refl;
+      spelled = domain_again x.name x.key x.ad stands.0 stands.1 stands.4;
+      gives = found.Domain x.name from;
+      makes = same;
       met =
           record {
             few = lt-leb 64 (length ds) few;
             once = or_from (list_any (names_domain x.name) ds) false new refl;
-            found = ap made (given_key x.key);
-            ranged = stands.2;
-            alone = alone;
+            found = refl;
+            ranged = ad_ranged x.key x.ad stands.2 stands.3;
+            alone = ap (is_twin (stage s ds [] []).topology) same ∙ or_from (list_any (has_ad x.ad) ds) (is_key_taken (stage s ds [] []).topology x.key) other untaken;
           };
     }
 
@@ -220,14 +202,24 @@ domains_along t k ds (x ∷ xs) e =
     let names = subst AreDistinct (map-append d_name ds (x ∷ xs)) (subst (differ d_name) (sym e) (front_distinct (map d_name t.domains) _ k.names_differ)) in
     let ads = subst AreDistinct (map-append d_ad ds (x ∷ xs)) (subst (differ d_ad) (sym e) k.ads_differ) in
     let new = any_map d_name x.name ds ∙ before_middle (map d_name ds) x.name (map d_name xs) names in
-    let alone = any_map d_ad x.ad.bytes ds ∙ before_middle (map d_ad ds) x.ad.bytes (map d_ad xs) ads in
-    (domain_taken t.settings ds x few new alone stands, domains_along t k (ds ++ x ∷ []) xs (append_assoc ds (x ∷ []) xs ∙ e))
+    let other = any_map d_ad x.ad.bytes ds ∙ before_middle (map d_ad ds) x.ad.bytes (map d_ad xs) ads in
+    let is = domain_identifiers ds in
+    let hs = host_identifiers t.parts in
+    let own = identifiers_in x.key in
+    let later = domain_identifiers xs in
+    let with_keys : List Domain → Type 0 = λ l. AreDistinct (domain_identifiers l ++ hs) in
+    let split : domain_identifiers (ds ++ x ∷ xs) ++ hs ≡ (is ++ []) ++ (own ++ (later ++ hs)) =
+    ap (λ l. l ++ hs) (domain_identifiers_split ds x xs) ∙ append_assoc is (own ++ later) hs ∙ ap (λ l. is ++ l) (append_assoc own later hs)
+    ∙ ap (λ l. l ++ (own ++ (later ++ hs))) (sym (append-nil is)) in
+    let keys = subst AreDistinct split (subst with_keys (sym e) k.identifiers_differ) in
+    let untaken = key_alone (stage t.settings ds [] []).topology x.key (later ++ hs) keys in
+    (domain_taken t.settings ds x few new other untaken stands, domains_along t k (ds ++ x ∷ []) xs (append_assoc ds (x ∷ []) xs ∙ e))
 
 -- ## Routers
 
-abbrev made_router : List ℕ → Bool → List ℕ → ℕ → Id → Id → Entry
+abbrev made_router : List ℕ → Bool → List ℕ → ℕ → Id → Id → Found
 made_router name checking master place eid ad =
-    entry.Router (record { name = name; domain = place; checking = checking; master = master; address = record { ad = ad; eid = eid } })
+    found.Router (record { name = name; domain = place; checking = checking; master = master; address = record { ad = ad; eid = eid } })
 
 router_taken : (s : Settings) (ds : List Domain) (rs : List Router) (x : Router) (d : Domain) → length rs < 256 → list_any (names_domain x.name) ds ≡ false
     → list_any (names_router x.name) rs ≡ false → list_any (has_eid x.address.eid) rs ≡ false → IsRouterOf ds x → slice_get ds x.domain ≡ Some d
@@ -238,8 +230,8 @@ router_taken s ds rs x d few new_d new_r alone stands there place known =
     let tail : List ℕ = 32 ∷ (kind_word x.checking ++ hex_end x.master) in
     let name_in : Option Domain → List ℕ = λ o. unwrap_or (option_map (λ domain. domain.name) o) [] in
     let front : List ℕ → List ℕ = λ n. words (codes "router") x.name n ++ tail in
-    let at : ℕ → Option Entry = λ p. option_map (made_router x.name x.checking x.master p (id_of_router x.name)) (ad_at p ds) in
-    let owned : Id → Option Entry = λ eid. Some (made_router x.name x.checking x.master x.domain eid x.address.ad) in
+    let at : ℕ → Option Found = λ p. option_map (made_router x.name x.checking x.master p (id_of_router x.name)) (ad_at p ds) in
+    let owned : Id → Option Found = λ eid. Some (made_router x.name x.checking x.master x.domain eid x.address.ad) in
     record {
       line = router_spelled x.name d.name x.checking x.master;
       says = form.Router x.name d.name x.checking x.master;
@@ -253,7 +245,8 @@ router_taken s ds rs x d few new_d new_r alone stands there place known =
           (word_shown 16 73 d.name _ (name_shown d.name known) (word_shown 8 64 (kind_word x.checking) hex (kind_shown x.checking) (hex_shown 32 x.master stands.1)))));
       seen = refl;
       spelled = router_again x.name d.name x.checking x.master stands.0 known stands.1;
-      known = refl;
+      gives = found.Router x;
+      makes = refl;
       met =
           record {
             few = lt-leb 256 (length rs) few;
@@ -347,42 +340,49 @@ is_there t k place below =
       found = place_again r_name t.routers place it.0 differ it.1;
     }
 
-abbrev made_host : List ℕ → Bool → Id → Key → ℕ → Entry
-made_host name guarded eid k place = entry.Part (part.Host (record { name = name; router = place; guarded = guarded; eid = eid; key = k }))
+abbrev made_host : List ℕ → ℕ → Bool → Id → Key → Entry
+made_host name place guarded eid k = entry.Part (part.Host (record { name = name; router = place; guarded = guarded; eid = eid; key = k }))
 
 host_taken : (t : Topology) (ps : List Part) (x : HostPart) (there : IsThere t.routers x.router) → count_by is_host ps < 1024 → list_any (names_domain x.name) t.domains ≡ false
     → list_any (names_router x.name) t.routers ≡ false → list_any (names_host x.name) ps ≡ false → list_any (has_key_id x.eid) ps ≡ false
+    → is_key_taken (stage t.settings t.domains t.routers ps).topology x.key ≡ false
     → IsPartOf (length t.routers) (part.Host x) → Taken (stage t.settings t.domains t.routers ps) (part_text t.routers (part.Host x)) (entry.Part (part.Host x))
-host_taken t ps x there few new_d new_r new_h alone stands =
+host_taken t ps x there few new_d new_r new_h other untaken stands =
     let keyword : IsShown 4 (codes "host") = record { printed = refl; short = lit≤ tt } in
-    let id_word : IsShown 2 (codes "id") = record { printed = refl; short = lit≤ tt } in
-    let hex = encode_lower x.eid.bytes in
     let at_name = there.router.name in
-    let tail : List ℕ = 32 ∷ (guard_word x.guarded ++ (32 ∷ (codes "id" ++ hex_end x.eid.bytes))) in
+    let spelled = eid_spelled x.key x.eid in
+    let from = eid_origin x.key x.eid in
+    let tail : List ℕ = 32 ∷ (guard_word x.guarded ++ (32 ∷ eid_text x.key x.eid)) in
     let front : List ℕ → List ℕ = λ n. words (codes "host") x.name n ++ tail in
-    let keyed : Key → Option Entry = λ k. Some (made_host x.name x.guarded x.eid k x.router) in
+    let back : List ℕ → List ℕ = λ l. then_word (codes "host") (then_word x.name (then_word at_name (then_word (guard_word x.guarded) l))) in
+    let at : ℕ → Found = λ place. found.Host x.name place x.guarded from in
+    let same : made (at x.router) ≡ entry.Part (part.Host x) =
+    ap (λ id. made_host x.name x.router x.guarded id (key_of from)) (eid_again x.key x.eid stands.4) ∙ ap (made_host x.name x.router x.guarded x.eid) (eid_key_again x.key x.eid) in
     record {
-      line = host_spelled x.name at_name x.guarded x.eid.bytes;
-      says = form.Host x.name at_name x.guarded x.eid;
+      line = host_spelled x.name at_name x.guarded x.key x.eid;
+      says = form.Host x.name at_name x.guarded from;
       whole =
-          ap front there.written ∙ words_then (codes "host") x.name at_name tail
-          ∙ sym (ends_five (codes "host") x.name at_name (guard_word x.guarded) (codes "id") hex (10 ∷ []));
+          ap front there.written ∙ words_then (codes "host") x.name at_name tail ∙ ap back (eid_ends x.key x.eid)
+          ∙ sym (ends_four (codes "host") x.name at_name (guard_word x.guarded) spelled (10 ∷ []));
       shown =
-          shown_more 90 191 _ (lit≤ tt)
-          (word_shown 4 85 (codes "host") _ keyword
-          (word_shown 16 68 x.name _ (name_shown x.name stands.0)
-          (word_shown 16 51 at_name _ (name_shown at_name there.name)
-          (word_shown 7 43 (guard_word x.guarded) _ (guard_shown x.guarded) (word_shown 2 40 (codes "id") hex id_word (hex_shown 20 x.eid.bytes stands.1))))));
+          shown_more 139 191 _ (lit≤ tt)
+          (word_shown 4 134 (codes "host") _ keyword
+          (word_shown 16 117 x.name _ (name_shown x.name stands.0)
+          (word_shown 16 100 at_name _ (name_shown at_name there.name)
+          (word_shown 7 92 (guard_word x.guarded) _ (guard_shown x.guarded) (eid_shown x.key x.eid stands.1 stands.4)))));
       seen = refl;
-      spelled = host_again x.name at_name x.guarded x.eid stands.0 there.name stands.1;
-      known = refl;
+      spelled = host_again x.name at_name x.guarded x.key x.eid stands.0 there.name stands.1 stands.4;
+      gives = at x.router;
+      makes = same;
       met =
           record {
             few = lt-leb 1024 (count_by is_host ps) few;
             once = or_from _ (list_any (names_router x.name) t.routers || list_any (names_host x.name) ps) new_d (or_from (list_any (names_router x.name) t.routers) (list_any (names_host x.name) ps) new_r new_h);
-            found = ap (option_map (made_host x.name x.guarded x.eid key.Given)) there.found ∙ ap keyed (given_key x.key);
-            ranged = stands.3;
-            alone = alone;
+            found = ap (option_map at) there.found;
+            ranged = eid_ranged x.key x.eid stands.1 stands.3;
+            alone =
+                ap (is_twin (stage t.settings t.domains t.routers ps).topology) same
+                ∙ or_from (list_any (has_key_id x.eid) ps) (is_key_taken (stage t.settings t.domains t.routers ps).topology x.key) other untaken;
           };
     }
   where
@@ -390,8 +390,8 @@ host_taken t ps x there few new_d new_r new_h alone stands =
     guard_shown true = record { printed = refl; short = lit≤ tt }
     guard_shown false = record { printed = refl; short = lit≤ tt }
 
-abbrev made_link : Bool → Bool → ℕ → ℕ → Entry
-made_link a_trusts b_trusts a b = entry.Part (part.Link (record { a = a; b = b; a_trusts = a_trusts; b_trusts = b_trusts }))
+abbrev made_link : Bool → Bool → ℕ → ℕ → Found
+made_link a_trusts b_trusts a b = found.Link (record { a = a; b = b; a_trusts = a_trusts; b_trusts = b_trusts })
 
 link_taken : (t : Topology) (ps : List Part) (x : LinkPart) (first : IsThere t.routers x.a) (second : IsThere t.routers x.b) → count_by is_link ps < 4096
     → IsPartOf (length t.routers) (part.Link x) → Taken (stage t.settings t.domains t.routers ps) (part_text t.routers (part.Link x)) (entry.Part (part.Link x))
@@ -402,7 +402,7 @@ link_taken t ps x first second few stands =
     let tail : List ℕ = 32 ∷ (trust_word x.a_trusts ++ (32 ∷ (trust_word x.b_trusts ++ 10 ∷ []))) in
     let front : List ℕ → List ℕ = λ n. words (codes "link") n (router_name t.routers x.b) ++ tail in
     let back : List ℕ → List ℕ = λ n. words (codes "link") an n ++ tail in
-    let other : ℕ → Option Entry = λ a. option_map (made_link x.a_trusts x.b_trusts a) (router_place bn t.routers) in
+    let other : ℕ → Option Found = λ a. option_map (made_link x.a_trusts x.b_trusts a) (router_place bn t.routers) in
     record {
       line = link_spelled an bn x.a_trusts x.b_trusts;
       says = form.Link an bn x.a_trusts x.b_trusts;
@@ -416,7 +416,8 @@ link_taken t ps x first second few stands =
           (word_shown 16 15 bn _ (name_shown bn second.name) (word_shown 7 7 (trust_word x.a_trusts) _ (trust_shown x.a_trusts) (trust_shown x.b_trusts)))));
       seen = refl;
       spelled = link_again an bn x.a_trusts x.b_trusts first.name second.name;
-      known = refl;
+      gives = found.Link x;
+      makes = refl;
       met =
           record {
             few = lt-leb 4096 (count_by is_link ps) few;
@@ -451,9 +452,18 @@ host_step t k ps x xs e =
     let inner = or_parts (list_any test rs) (list_any test hs) (sym (list_any-append test rs hs) ∙ outer.1) in
     let with_ids : List Part → Type 0 = λ l. AreDistinct (host_key_ids l) in
     let ids = subst AreDistinct (host_key_ids_split ps x xs) (subst with_ids (sym e) k.key_ids_differ) in
-    let alone = any_key_id x.eid ps ∙ before_middle (host_key_ids ps) (take 19 x.eid.bytes) (host_key_ids xs) ids in
+    let other = any_key_id x.eid ps ∙ before_middle (host_key_ids ps) (take 19 x.eid.bytes) (host_key_ids xs) ids in
+    let is = domain_identifiers t.domains in
+    let before_keys = host_identifiers ps in
+    let own = identifiers_in x.key in
+    let later = host_identifiers xs in
+    let with_keys : List Part → Type 0 = λ l. AreDistinct (is ++ host_identifiers l) in
+    let split_keys : is ++ host_identifiers (ps ++ part.Host x ∷ xs) ≡ (is ++ before_keys) ++ (own ++ later) =
+    ap (λ l. is ++ l) (host_identifiers_split ps x xs) ∙ sym (append_assoc is before_keys (own ++ later)) in
+    let keys = subst AreDistinct split_keys (subst with_keys (sym e) k.identifiers_differ) in
+    let untaken = key_alone (stage t.settings t.domains t.routers ps).topology x.key later keys in
     host_taken t ps x (is_there t k x.router stands.2) few (any_map d_name x.name t.domains ∙ outer.0) (any_map r_name x.name t.routers ∙ inner.0)
-    (any_host_name x.name ps ∙ inner.1) alone stands
+    (any_host_name x.name ps ∙ inner.1) other untaken stands
 
 link_step : (t : Topology) (k : IsSound t) (ps : List Part) (x : LinkPart) (xs : List Part) → ps ++ part.Link x ∷ xs ≡ t.parts
     → Taken (stage t.settings t.domains t.routers ps) (part_text t.routers (part.Link x)) (entry.Part (part.Link x))

@@ -1,5 +1,6 @@
 pub mod Judging
 pub mod Distinct
+pub mod Keys
 pub mod WellFormed
 pub mod Soundness
 pub mod Spelling

@@ -7,20 +7,21 @@ use Rattle.aip_text.specs.Lines.{lines_of, is_skipped, has_carriage_return}
 use Rattle.aip_text.specs.Words.{lacks}
 use Rattle.aip_text.proofs.Lacking.{lacks_by}
 use Rattle.aip_topo.specs.Lines.{line_of}
-use Rattle.aip_topo.specs.Reading.{at_line, is_long, is_seed, then_with, with_lines, with_read, with_text}
-use Rattle.aip_topo.specs.Steps.{draft_with, entry_or_fault, is_many, is_out_of_range, is_twice, is_twin, judged, with_judged}
+use Rattle.aip_topo.specs.Reading.{at_line, is_long, then_with, with_lines, with_read, with_text}
+use Rattle.aip_topo.specs.Steps.{draft_with, entry_or_fault, is_many, is_out_of_range, is_twice, is_twin, judged, made, with_judged}
 use Rattle.aip_topo.specs.declared.faults.TopoEnd.{TopoEnd}
 use Rattle.aip_topo.specs.declared.lines.Line.{Line}
 use Rattle.aip_topo.specs.declared.steps.Draft.{Draft}
 use Rattle.aip_topo.specs.declared.steps.Entry.{Entry}
+use Rattle.aip_topo.specs.declared.steps.Found.{Found}
 use Rattle.aip_topo.proofs.Judging.{IsAccepted}
 use Rattle.aip_topo.proofs.Spelling.{IsShown, is_printed}
 
 -- a line that was accepted gives what it adds
-accepted_gives : (draft : Draft) (l : Line) (e : Entry) → IsAccepted draft l e → entry_or_fault draft l ≡ Ok e
-accepted_gives draft l e met =
+accepted_gives : (draft : Draft) (l : Line) (f : Found) → IsAccepted draft l f → entry_or_fault draft l ≡ Ok (made f)
+accepted_gives draft l f met =
     cond-false (is_many draft.topology l) _ _ met.few ∙ cond-false (is_twice draft l) _ _ met.once ∙ ap (judged draft.topology) met.found
-    ∙ cond-false (is_out_of_range e) _ _ met.ranged ∙ cond-false (is_twin draft.topology e) _ _ met.alone
+    ∙ cond-false (is_out_of_range f) _ _ met.ranged ∙ cond-false (is_twin draft.topology (made f)) _ _ met.alone
 
 -- the line of the text, with its line feed, adds this
 pub record Taken (draft : Draft) (text : List ℕ) (e : Entry) : Type 0 where
@@ -30,8 +31,9 @@ pub record Taken (draft : Draft) (text : List ℕ) (e : Entry) : Type 0 where
   pub shown : IsShown 191 line
   pub seen : is_skipped line ≡ false
   pub spelled : line_of line ≡ Some says
-  pub known : is_seed says ≡ false
-  pub met : IsAccepted draft says e
+  pub gives : Found
+  pub makes : made gives ≡ e
+  pub met : IsAccepted draft says gives
 
 no_return_byte : (b : ℕ) → is_printed b ≡ true → (b == 13) ≡ false
 no_return_byte b h = grind arith
@@ -47,8 +49,8 @@ taken_text : (number ending : ℕ) (draft : Draft) (text : List ℕ) (e : Entry)
 taken_text number ending draft text e k near =
     let long = or_from (nat_lt 20000 (length k.line)) (nat_lt 1048576 ending) (le-ltb 20000 (length k.line) (omega (arith, k.shown.short))) (le-ltb 1048576 ending near) in
     cond-false (is_long ending k.line) _ _ long ∙ cond-false (has_carriage_return k.line) _ _ (no_return k.line k.shown.printed)
-    ∙ cond-false (is_skipped k.line) _ _ k.seen ∙ ap (with_read number draft) k.spelled ∙ cond-false (is_seed k.says) _ _ k.known
-    ∙ ap (λ r. at_line number (with_judged draft r)) (accepted_gives draft k.says e k.met)
+    ∙ cond-false (is_skipped k.line) _ _ k.seen ∙ ap (with_read number draft) k.spelled
+    ∙ ap (λ r. at_line number (with_judged draft r)) (accepted_gives draft k.says k.gives k.met ∙ ap Ok k.makes)
 
 -- a line and its line feed are the first line
 lines_again : (text rest : List ℕ) → lacks 10 text ≡ true → lines_of (text ++ 10 ∷ rest) ≡ text ∷ lines_of rest

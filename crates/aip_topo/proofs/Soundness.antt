@@ -15,9 +15,9 @@ use Rattle.aip_addr.specs.declared.ids.Id.{Id}
 use Rattle.aip_text.specs.Lines.{lines_of, is_skipped, has_carriage_return}
 use Rattle.aip_topo.specs.Canonical.{values_of}
 use Rattle.aip_topo.specs.Lines.{line_of}
-use Rattle.aip_topo.specs.Reading.{at_line, empty_draft, finished, is_long, is_seed, then_with, topology_of, with_lines, with_read, with_text}
-use Rattle.aip_topo.specs.Sound.{AreDistinct, IsDomain, IsInRange, IsPartOf, IsRouterOf, IsSound, has_text, host_key_ids, host_names, names_of}
-use Rattle.aip_topo.specs.Steps.{ad_at, domain_place, draft_with, entry_or_fault, has_key_id, is_host, is_link, is_named, is_out_of_range, is_twin, names_domain, names_host, names_router, router_place, with_entry, with_judged, with_line, with_setting}
+use Rattle.aip_topo.specs.Reading.{at_line, empty_draft, finished, is_long, then_with, topology_of, with_lines, with_read, with_text}
+use Rattle.aip_topo.specs.Sound.{AreDistinct, IsDomain, IsInRange, IsPartOf, IsRouterOf, IsSound, has_text, host_key_ids, host_names, domain_identifiers, names_of}
+use Rattle.aip_topo.specs.Steps.{ad_at, domain_place, draft_with, entry_or_fault, has_ad, has_key_id, is_host, is_key_taken, is_link, is_named, is_out_of_range, is_twin, made, names_domain, names_host, names_router, router_place, with_entry, with_judged, with_line, with_setting}
 use Rattle.aip_topo.specs.declared.faults.TopoEnd.{TopoEnd}
 use Rattle.aip_topo.specs.declared.faults.TopoFault.{TopoFault}
 use Rattle.aip_topo.specs.declared.lines.Line.{Line}
@@ -27,6 +27,8 @@ use Rattle.aip_topo.specs.declared.lines.Setting.TheVariants as setting
 use Rattle.aip_topo.specs.declared.steps.Draft.{Draft}
 use Rattle.aip_topo.specs.declared.steps.Entry.{Entry}
 use Rattle.aip_topo.specs.declared.steps.Entry.TheVariants as entry
+use Rattle.aip_topo.specs.declared.steps.Found.{Found}
+use Rattle.aip_topo.specs.declared.steps.Found.TheVariants as found
 use Rattle.aip_topo.specs.declared.topology.Domain.{Domain}
 use Rattle.aip_topo.specs.declared.topology.HostPart.{HostPart}
 use Rattle.aip_topo.specs.declared.topology.LinkPart.{LinkPart}
@@ -37,6 +39,7 @@ use Rattle.aip_topo.specs.declared.topology.Settings.{Settings}
 use Rattle.aip_topo.specs.declared.topology.Topology.{Topology}
 use Rattle.aip_topo.proofs.Distinct.{added, all_more, all_then, inserted}
 use Rattle.aip_topo.proofs.Judging.{IsAccepted, given_accepted, past}
+use Rattle.aip_topo.proofs.Keys.{ad_may, domain_more, host_identifiers-link, host_more, origin_alone, origin_id, origin_sized, origin_version}
 use Rattle.aip_topo.proofs.WellFormed.{IsLine, line_is}
 
 -- ## What an entry is, and what it isn't yet
@@ -72,38 +75,41 @@ chained : {A B : Type 0} (f : A → Option B) (o : Option A) (y : B) → option_
 chained f None y h = absurd (none-some y h)
 chained f (Some x) y h = (x, refl, h)
 
--- both facts, of the entry that was found
-abbrev Meets : Topology → Entry → Type 0
-Meets t e = Stands t e × IsNew t e
+-- both facts, of what is made of what was found
+abbrev Meets : Topology → Found → Type 0
+Meets t f = Stands t (made f) × IsNew t (made f)
 
-meets_same : (t : Topology) (x e : Entry) → x ≡ e → is_out_of_range e ≡ false → (is_out_of_range x ≡ false → Meets t x) → Meets t e
-meets_same t x e same ranged f = subst (Meets t) same (f (ap is_out_of_range same ∙ ranged))
+meets_same : (t : Topology) (x f : Found) → x ≡ f → is_out_of_range f ≡ false → (is_out_of_range x ≡ false → Meets t x) → Meets t f
+meets_same t x f same ranged each = subst (Meets t) same (each (ap is_out_of_range same ∙ ranged))
 
 -- what a line gave may stand, and is new
-found_meets : (draft : Draft) (l : Line) (e : Entry) → IsLine l → IsAccepted draft l e → Meets draft.topology e
-found_meets draft (line.Set s value) e fits met =
+found_meets : (draft : Draft) (l : Line) (f : Found) → IsLine l → IsAccepted draft l f → Meets draft.topology f
+found_meets draft (line.Set s value) f fits met =
     let t = draft.topology in
-    meets_same t (entry.Set s value) e (same_Some _ _ met.found) met.ranged (λ ranged. (ranged, tt))
-found_meets draft (line.Domain name ad) e fits met =
+    meets_same t (found.Set s value) f (same_Some _ _ met.found) met.ranged (λ ranged. (ranged, tt))
+found_meets draft (line.Domain name from) f fits met =
     let t = draft.topology in
-    meets_same t _ e (same_Some _ _ met.found) met.ranged (λ ranged. ((fits.0, fits.1, ranged), (leb-false _ _ met.few, met.once)))
-found_meets draft (line.Router name domain checking master) e fits met =
+    meets_same t (found.Domain name from) f (same_Some _ _ met.found) met.ranged (λ ranged.
+    let may = ad_may from ranged in
+    ((fits.0, origin_sized from fits.1 may, origin_version from may, origin_alone from ranged, origin_id from fits.1), (leb-false _ _ met.few, met.once)))
+found_meets draft (line.Router name domain checking master) f fits met =
     let t = draft.topology in
-    let place = chained _ (domain_place domain t.domains) e met.found in
-    let ad = mapped _ (ad_at place.0 t.domains) e place.2 in
-    meets_same t _ e ad.2 met.ranged (λ ranged. ((fits.0, fits.1, ad.1, refl), (leb-false _ _ met.few, met.once)))
-found_meets draft (line.Host name router guarded eid) e fits met =
+    let place = chained _ (domain_place domain t.domains) f met.found in
+    let ad = mapped _ (ad_at place.0 t.domains) f place.2 in
+    meets_same t _ f ad.2 met.ranged (λ ranged. ((fits.0, fits.1, ad.1, refl), (leb-false _ _ met.few, met.once)))
+found_meets draft (line.Host name router guarded from) f fits met =
     let t = draft.topology in
-    let place = mapped _ (router_place router t.routers) e met.found in
-    meets_same t _ e place.2 met.ranged
-    (λ ranged. ((fits.0, fits.1, found_within (names_router router) t.routers place.0 place.1, ranged), (leb-false _ _ met.few, met.once)))
-found_meets draft (line.Link a b a_trusts b_trusts) e fits met =
+    let place = mapped _ (router_place router t.routers) f met.found in
+    meets_same t (found.Host name place.0 guarded from) f place.2 met.ranged (λ ranged. (
+      (fits.0, origin_sized from fits.1 ranged, found_within (names_router router) t.routers place.0 place.1, origin_version from ranged, origin_id from fits.1),
+      (leb-false _ _ met.few, met.once),
+    ))
+found_meets draft (line.Link a b a_trusts b_trusts) f fits met =
     let t = draft.topology in
-    let first = chained _ (router_place a t.routers) e met.found in
-    let second = mapped _ (router_place b t.routers) e first.2 in
-    meets_same t _ e second.2 met.ranged
+    let first = chained _ (router_place a t.routers) f met.found in
+    let second = mapped _ (router_place b t.routers) f first.2 in
+    meets_same t _ f second.2 met.ranged
     (λ ranged. ((found_within (names_router a) t.routers first.0 first.1, found_within (names_router b) t.routers second.0 second.1, ranged), leb-false _ _ met.few))
-found_meets draft line.Seed e fits met = absurd (none-some e met.found)
 
 -- ## One more
 
@@ -205,7 +211,7 @@ router_stays : (domains : List Domain) (domain : Domain) (router : Router) → I
 router_stays domains domain router h = (h.0, h.1, ad_more router.domain domains domain router.address.ad h.2, h.3)
 
 part_stays : (n m : ℕ) → n ≤ m → (p : Part) → IsPartOf n p → IsPartOf m p
-part_stays n m up (part.Host host) h = (h.0, h.1, omega (arith, h.2), h.3)
+part_stays n m up (part.Host host) h = (h.0, h.1, omega (arith, h.2), h.3, h.4)
 part_stays n m up (part.Link link) h = (omega (arith, h.0), omega (arith, h.1), h.2)
 
 -- 1 for what counts
@@ -239,8 +245,10 @@ sound_with t (entry.Set s value) k stands new alone =
       ads_differ = k.ads_differ;
       eids_differ = k.eids_differ;
       key_ids_differ = k.key_ids_differ;
+      identifiers_differ = k.identifiers_differ;
     }
 sound_with t (entry.Domain domain) k stands new alone =
+    let apart = or_parts (list_any (has_ad domain.ad) t.domains) (is_key_taken t domain.key) alone in
     record {
       few_domains = omega (arith, length-append t.domains (domain ∷ []), new.0);
       few_routers = k.few_routers;
@@ -251,9 +259,10 @@ sound_with t (entry.Domain domain) k stands new alone =
       routers = all_then (IsRouterOf t.domains) (IsRouterOf (t.domains ++ domain ∷ [])) (router_stays t.domains domain) t.routers k.routers;
       parts = k.parts;
       names_differ = first_of_three (λ (d : Domain). d.name) t.domains domain (map (λ (r : Router). r.name) t.routers ++ host_names t.parts) k.names_differ (new_name domain.name t new.1);
-      ads_differ = mapped_more (λ (d : Domain). d.ad.bytes) t.domains domain k.ads_differ alone;
+      ads_differ = mapped_more (λ (d : Domain). d.ad.bytes) t.domains domain k.ads_differ apart.0;
       eids_differ = k.eids_differ;
       key_ids_differ = k.key_ids_differ;
+      identifiers_differ = domain_more t domain k.identifiers_differ apart.1;
     }
 sound_with t (entry.Router router) k stands new alone =
     record {
@@ -269,11 +278,13 @@ sound_with t (entry.Router router) k stands new alone =
       ads_differ = k.ads_differ;
       eids_differ = mapped_more (λ (r : Router). r.address.eid.bytes) t.routers router k.eids_differ alone;
       key_ids_differ = k.key_ids_differ;
+      identifiers_differ = k.identifiers_differ;
     }
 sound_with t (entry.Part (part.Host host)) k stands new alone =
     let ds : List (List ℕ) = map (λ (d : Domain). d.name) t.domains in
     let rs : List (List ℕ) = map (λ (r : Router). r.name) t.routers in
     let names : List (List ℕ) → Type 0 = λ hosts. AreDistinct (ds ++ (rs ++ hosts)) in
+    let apart = or_parts (list_any (has_key_id host.eid) t.parts) (is_key_taken t host.key) alone in
     record {
       few_domains = k.few_domains;
       few_routers = k.few_routers;
@@ -286,12 +297,14 @@ sound_with t (entry.Part (part.Host host)) k stands new alone =
       names_differ = subst names (sym (host_names-host t.parts host)) (third_of_three ds rs (host_names t.parts) host.name k.names_differ (new_name host.name t new.1));
       ads_differ = k.ads_differ;
       eids_differ = k.eids_differ;
-      key_ids_differ = subst AreDistinct (sym (host_key_ids-host t.parts host)) (added (host_key_ids t.parts) (take 19 host.eid.bytes) k.key_ids_differ (sym (any_key_id host.eid t.parts) ∙ alone));
+      key_ids_differ = subst AreDistinct (sym (host_key_ids-host t.parts host)) (added (host_key_ids t.parts) (take 19 host.eid.bytes) k.key_ids_differ (sym (any_key_id host.eid t.parts) ∙ apart.0));
+      identifiers_differ = host_more t host k.identifiers_differ apart.1;
     }
 sound_with t (entry.Part (part.Link link)) k stands new alone =
     let ds : List (List ℕ) = map (λ (d : Domain). d.name) t.domains in
     let rs : List (List ℕ) = map (λ (r : Router). r.name) t.routers in
     let names : List (List ℕ) → Type 0 = λ hosts. AreDistinct (ds ++ (rs ++ hosts)) in
+    let identifiers : List (List ℕ) → Type 0 = λ hosts. AreDistinct (domain_identifiers t.domains ++ hosts) in
     record {
       few_domains = k.few_domains;
       few_routers = k.few_routers;
@@ -305,16 +318,18 @@ sound_with t (entry.Part (part.Link link)) k stands new alone =
       ads_differ = k.ads_differ;
       eids_differ = k.eids_differ;
       key_ids_differ = subst AreDistinct (sym (host_key_ids-link t.parts link)) k.key_ids_differ;
+      identifiers_differ = subst identifiers (sym (host_identifiers-link t.parts link)) k.identifiers_differ;
     }
 
 -- ## A whole text
 
 judged_keeps : (draft next : Draft) (l : Line) (r : Result Entry TopoFault) → IsLine l → IsSound draft.topology → r ≡ entry_or_fault draft l → with_judged draft r ≡ Ok next → IsSound next.topology
 judged_keeps draft next l (Ok e) fits k h given =
-    let met = given_accepted draft l e (sym h) in
-    let may = found_meets draft l e fits met in
+    let it = given_accepted draft l e (sym h) in
+    let may = found_meets draft l it.gives fits it.met in
     let same : draft_with draft e ≡ next = cc in
-    subst (λ (d : Draft). IsSound d.topology) same (sound_with draft.topology e k may.0 may.1 met.alone)
+    let sound = sound_with draft.topology (made it.gives) k may.0 may.1 it.met.alone in
+    subst (λ (d : Draft). IsSound d.topology) same (subst (λ x. IsSound (with_entry draft.topology x)) it.makes sound)
 judged_keeps draft next l (Err f) fits k h given = cc given
 
 at_line_ok : (number : ℕ) (r : Result Draft TopoFault) (next : Draft) → at_line number r ≡ Ok next → r ≡ Ok next
@@ -324,8 +339,7 @@ at_line_ok number (Err f) next h = cc h
 read_keeps : (number : ℕ) (draft next : Draft) (text : List ℕ) (o : Option Line) → o ≡ line_of text → IsSound draft.topology → with_read number draft o ≡ Ok next → IsSound next.topology
 read_keeps number draft next text None e k h = cc h
 read_keeps number draft next text (Some l) e k h =
-    let kept = past (is_seed l) _ _ next h in
-    judged_keeps draft next l (entry_or_fault draft l) (line_is text l (sym e)) k refl (at_line_ok number (with_line draft l) next kept.1)
+    judged_keeps draft next l (entry_or_fault draft l) (line_is text l (sym e)) k refl (at_line_ok number (with_line draft l) next h)
 
 skipped_keeps : (b : Bool) (r : Result Draft TopoEnd) (draft next : Draft) → IsSound draft.topology → (r ≡ Ok next → IsSound next.topology) → cond b (Ok draft) r ≡ Ok next → IsSound next.topology
 skipped_keeps true r draft next k f h = let same : draft ≡ next = cc in subst (λ (d : Draft). IsSound d.topology) same k
@@ -363,6 +377,7 @@ empty_sound =
       ads_differ = tt;
       eids_differ = tt;
       key_ids_differ = tt;
+      identifiers_differ = tt;
     }
 
 finished_sound : (r : Result Draft TopoEnd) (t : Topology) → ((draft : Draft) → r ≡ Ok draft → IsSound draft.topology) → finished r ≡ Ok t → IsSound t

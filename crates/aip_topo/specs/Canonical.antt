@@ -1,7 +1,9 @@
 -- The canonical text of a topology: the settings, the domains, the routers, then the hosts and links.
-use Rattle.std.specs.Prelude.{ℕ, Bool, true, false, List, [], ◌∷◌, ◌++◌, codes, decimal, unwrap_or, option_map, slice_get, flat_map}
+use Rattle.std.specs.Prelude.{ℕ, Bool, true, false, List, [], ◌∷◌, ◌++◌, codes, decimal, unwrap_or, option_map, slice_get, slice_index, flat_map}
 use Rattle.hex.specs.Hex.{encode_lower}
-use Rattle.aip_topo.specs.Lines.{setting_word}
+use Rattle.aip_addr.specs.declared.ids.Id.{Id}
+use Rattle.lms_core.specs.Tree as lms
+use Rattle.aip_topo.specs.Lines.{height_word, setting_word, width_word}
 use Rattle.aip_topo.specs.declared.lines.Setting.{Setting}
 use Rattle.aip_topo.specs.declared.lines.Setting.TheVariants as setting
 use Rattle.aip_topo.specs.declared.topology.Settings.{Settings}
@@ -11,6 +13,8 @@ use Rattle.aip_topo.specs.declared.topology.HostPart.{HostPart}
 use Rattle.aip_topo.specs.declared.topology.LinkPart.{LinkPart}
 use Rattle.aip_topo.specs.declared.topology.Part.{Part}
 use Rattle.aip_topo.specs.declared.topology.Part.TheVariants as part
+use Rattle.aip_topo.specs.declared.topology.Key.{Key}
+use Rattle.aip_topo.specs.declared.topology.Key.TheVariants as key
 use Rattle.aip_topo.specs.declared.topology.Topology.{Topology}
 
 -- the line of a setting, with its line feed
@@ -39,9 +43,23 @@ words first second third = first ++ (32 ∷ (second ++ (32 ∷ third)))
 abbrev pub hex_end : List ℕ → List ℕ
 hex_end bytes = 32 ∷ (encode_lower bytes ++ 10 ∷ [])
 
+-- `seed`, the width and the height of a key
+abbrev pub seed_words : lms.Key → List ℕ
+seed_words k = words (codes "seed") (width_word k.width) (height_word k.height)
+
+-- behind a domain's name: its id, or the seed of its key
+abbrev pub ad_text : Key → Id → List ℕ
+ad_text key.Given ad = codes "id" ++ hex_end ad.bytes
+ad_text (key.Made k) ad = seed_words k ++ hex_end k.seed
+
+-- behind a host's guard: its id, or the seed of its key with the interface of its id
+abbrev pub eid_text : Key → Id → List ℕ
+eid_text key.Given eid = codes "id" ++ hex_end eid.bytes
+eid_text (key.Made k) eid = seed_words k ++ (32 ∷ (decimal (slice_index eid.bytes 19) ++ hex_end k.seed))
+
 -- the line of a domain
 abbrev pub domain_text : Domain → List ℕ
-domain_text domain = words (codes "domain") domain.name (codes "id") ++ hex_end domain.ad.bytes
+domain_text domain = codes "domain" ++ (32 ∷ (domain.name ++ (32 ∷ ad_text domain.key domain.ad)))
 
 -- the name of the domain at a place
 abbrev pub domain_name : List Domain → ℕ → List ℕ
@@ -74,7 +92,7 @@ router_text domains router =
 -- the line of a host
 abbrev pub host_text : List Router → HostPart → List ℕ
 host_text routers host =
-    words (codes "host") host.name (router_name routers host.router) ++ (32 ∷ (guard_word host.guarded ++ (32 ∷ (codes "id" ++ hex_end host.eid.bytes))))
+    words (codes "host") host.name (router_name routers host.router) ++ (32 ∷ (guard_word host.guarded ++ (32 ∷ eid_text host.key host.eid)))
 
 -- the line of a link
 abbrev pub link_text : List Router → LinkPart → List ℕ

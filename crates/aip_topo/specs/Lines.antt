@@ -1,11 +1,17 @@
 -- The lines of a topology's text, as words.
-use Rattle.std.specs.Prelude.{ℕ, ◌||◌, Bool, true, false, List, codes, option_map, if◌then◌else◌, Option, Some, None}
+use Rattle.std.specs.Prelude.{ℕ, Bool, true, false, List, codes, option_map, if◌then◌else◌, Option, Some, None}
 use Rattle.std.specs.Str.{bytes_eq}
 use Rattle.aip_addr.specs.Naming.{is_name}
 use Rattle.aip_addr.specs.declared.ids.Id.{Id}
 use Rattle.aip_text.specs.Words.{number_of, hex_sized, cut}
+use Rattle.lmots_core.specs.declared.parameters.Width.{Width}
+use Rattle.lmots_core.specs.declared.parameters.Width.TheVariants.{W1, W2, W4, W8}
+use Rattle.lms_core.specs.declared.height.Height.{Height}
+use Rattle.lms_core.specs.declared.height.Height.TheVariants.{H5, H10}
 use Rattle.aip_topo.specs.declared.lines.Line.{Line}
 use Rattle.aip_topo.specs.declared.lines.Line.TheVariants as line
+use Rattle.aip_topo.specs.declared.lines.Origin.{Origin}
+use Rattle.aip_topo.specs.declared.lines.Origin.TheVariants as origin
 use Rattle.aip_topo.specs.declared.lines.Setting.{Setting}
 use Rattle.aip_topo.specs.declared.lines.Setting.TheVariants as setting
 
@@ -60,46 +66,67 @@ set_line text = do
   value ← number_of word.1
   Some (line.Set setting value)
 
--- a word of the width of a key: W1, W2, W4 or W8
-abbrev pub is_width : List ℕ → Bool
-is_width word =
-    bytes_eq word (codes "W1") || (bytes_eq word (codes "W2") || (bytes_eq word (codes "W4") || bytes_eq word (codes "W8")))
+-- the word of the width of a key's one-time signatures
+abbrev pub width_word : Width → List ℕ
+width_word W1 = codes "W1"
+width_word W2 = codes "W2"
+width_word W4 = codes "W4"
+width_word W8 = codes "W8"
 
--- a word of the height of a key: H5 or H10
-abbrev pub is_height : List ℕ → Bool
-is_height word = bytes_eq word (codes "H5") || bytes_eq word (codes "H10")
+-- the width that a word is of
+abbrev pub width_of : List ℕ → Option Width
+width_of word =
+    if bytes_eq word (codes "W1") then Some W1
+    else if bytes_eq word (codes "W2") then Some W2
+    else if bytes_eq word (codes "W4") then Some W4
+    else if bytes_eq word (codes "W8") then Some W8
+    else None
 
--- behind `seed` in a domain's line: a width, a height and the 64 digits of a seed
-unfoldable pub domain_seed : List ℕ → Option Line
+-- the word of the height of a key's tree
+abbrev pub height_word : Height → List ℕ
+height_word H5 = codes "H5"
+height_word H10 = codes "H10"
+
+-- the height that a word is of
+abbrev pub height_of : List ℕ → Option Height
+height_of word = if bytes_eq word (codes "H5") then Some H5 else if bytes_eq word (codes "H10") then Some H10 else None
+
+-- behind `seed` in a domain's line: a width, a height and the 64 digits of a seed; the interface is 0
+unfoldable pub domain_seed : List ℕ → Option Origin
 domain_seed text = do
-  width ← cut text
-  height ← cut width.1
-  seed ← hex_sized 32 height.1
-  if is_width width.0 then (if is_height height.0 then Some line.Seed else None) else None
+  word ← cut text
+  width ← width_of word.0
+  next ← cut word.1
+  height ← height_of next.0
+  seed ← hex_sized 32 next.1
+  Some (origin.Seed width height 0 seed)
 
--- behind `seed` in a host's line: a width, a height, a number and the 64 digits of a seed
-unfoldable pub host_seed : List ℕ → Option Line
+-- behind `seed` in a host's line: a width, a height, the number of the interface and the 64 digits of a seed
+unfoldable pub host_seed : List ℕ → Option Origin
 host_seed text = do
-  width ← cut text
-  height ← cut width.1
-  interface ← cut height.1
-  number ← number_of interface.0
-  seed ← hex_sized 32 interface.1
-  if is_width width.0 then (if is_height height.0 then Some line.Seed else None) else None
+  word ← cut text
+  width ← width_of word.0
+  next ← cut word.1
+  height ← height_of next.0
+  last ← cut next.1
+  interface ← number_of last.0
+  seed ← hex_sized 32 last.1
+  Some (origin.Seed width height interface seed)
 
 -- behind a domain's name: `id` and an id, or `seed` and a key
-unfoldable pub domain_form : List ℕ → List ℕ → Option Line
-domain_form name text = do
+unfoldable pub domain_form : List ℕ → Option Origin
+domain_form text = do
   form ← cut text
-  if bytes_eq form.0 (codes "id") then option_map (λ ad. line.Domain name ad) (id_of form.1)
+  if bytes_eq form.0 (codes "id") then option_map (λ id. origin.Given id) (id_of form.1)
       else if bytes_eq form.0 (codes "seed") then domain_seed form.1 else None
 
--- behind `domain`: a name and its form
+-- behind `domain`: a name, and how its id is given
 unfoldable pub domain_line : List ℕ → Option Line
 domain_line text = do
   word ← cut text
   name ← name_of word.0
-  domain_form name word.1
+  from ← domain_form word.1
+  Some (line.Domain name from)
 
 -- behind `router`: a name, a domain's name, `checking` or `open`, and the 64 digits of a master secret
 unfoldable pub router_line : List ℕ → Option Line
@@ -114,13 +141,13 @@ router_line text = do
   Some (line.Router name domain checking master)
 
 -- behind a host's guard: `id` and an id, or `seed` and a key
-unfoldable pub host_form : List ℕ → List ℕ → Bool → List ℕ → Option Line
-host_form name router guarded text = do
+unfoldable pub host_form : List ℕ → Option Origin
+host_form text = do
   form ← cut text
-  if bytes_eq form.0 (codes "id") then option_map (λ eid. line.Host name router guarded eid) (id_of form.1)
+  if bytes_eq form.0 (codes "id") then option_map (λ id. origin.Given id) (id_of form.1)
       else if bytes_eq form.0 (codes "seed") then host_seed form.1 else None
 
--- behind `host`: a name, a router's name, `guarded` or `plain`, and the form
+-- behind `host`: a name, a router's name, `guarded` or `plain`, and how its id is given
 unfoldable pub host_line : List ℕ → Option Line
 host_line text = do
   word ← cut text
@@ -129,7 +156,8 @@ host_line text = do
   router ← name_of next.0
   guard ← cut next.1
   guarded ← choice_of guard.0 (codes "guarded") (codes "plain")
-  host_form name router guarded guard.1
+  from ← host_form guard.1
+  Some (line.Host name router guarded from)
 
 -- behind `link`: two routers' names, and `trusted` or `checked` for each
 unfoldable pub link_line : List ℕ → Option Line

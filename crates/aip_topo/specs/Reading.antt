@@ -1,5 +1,5 @@
 -- The topology that a text gives, or the first line that is refused, with its first fault.
-use Rattle.std.specs.Prelude.{◌≡◌, ℕ, ◌+◌, ◌||◌, min, nat_lt, Bool, true, false, List, [], ◌∷◌, length, replicate, if◌then◌else◌, Option, Some, None, Result, Ok, Err}
+use Rattle.std.specs.Prelude.{◌≡◌, ℕ, ◌+◌, ◌||◌, min, nat_lt, Bool, false, List, [], ◌∷◌, length, replicate, if◌then◌else◌, Option, Some, None, Result, Ok, Err}
 use Rattle.aip_text.specs.Lines.{lines_of, is_skipped, has_carriage_return}
 use Rattle.aip_topo.specs.Lines.{line_of}
 use Rattle.aip_topo.specs.Steps.{with_line}
@@ -8,7 +8,6 @@ use Rattle.aip_topo.specs.declared.faults.TopoFault.TheVariants as fault
 use Rattle.aip_topo.specs.declared.faults.TopoEnd.{TopoEnd}
 use Rattle.aip_topo.specs.declared.faults.TopoEnd.TheVariants as end
 use Rattle.aip_topo.specs.declared.lines.Line.{Line}
-use Rattle.aip_topo.specs.declared.lines.Line.TheVariants as line
 use Rattle.aip_topo.specs.declared.steps.Draft.{Draft}
 use Rattle.aip_topo.specs.declared.topology.Settings.{Settings}
 use Rattle.aip_topo.specs.declared.topology.Topology.{Topology}
@@ -32,19 +31,10 @@ abbrev pub at_line : ℕ → Result Draft TopoFault → Result Draft TopoEnd
 at_line number (Ok draft) = Ok draft
 at_line number (Err f) = Err (end.Line number f)
 
--- a domain or a host by the seed of its key
-abbrev pub is_seed : Line → Bool
-is_seed (line.Set _ _) = false
-is_seed (line.Domain _ _) = false
-is_seed (line.Router _ _ _ _) = false
-is_seed (line.Host _ _ _ _) = false
-is_seed (line.Link _ _ _ _) = false
-is_seed line.Seed = true
-
--- the draft with what a line says: Form where it says nothing, and no keys are made of seeds yet
+-- the draft with what a line says: Form where it says nothing
 abbrev pub with_read : ℕ → Draft → Option Line → Result Draft TopoEnd
 with_read number draft None = Err (end.Line number fault.Form)
-with_read number draft (Some l) = if is_seed l then Err end.Unbuilt else at_line number (with_line draft l)
+with_read number draft (Some l) = at_line number (with_line draft l)
 
 -- the draft with a line of the text, which ends at this place: Long first, then Form for a carriage return; an empty line and one that begins with # are skipped
 abbrev pub with_text : ℕ → ℕ → Draft → List ℕ → Result Draft TopoEnd
@@ -77,5 +67,4 @@ topology_of text = finished (with_lines (length text) 1 0 empty_draft (lines_of 
 -- this end is the one that is told, unless memory ran out
 abbrev pub Tells : {A : Type 0} → TopoEnd → Result A TopoEnd → Type 0
 Tells (end.Line number f) told = told ≡ Err (end.Line number f)
-Tells end.Unbuilt told = told ≡ Err end.Unbuilt
 Tells end.Memory told = Unit {0}

@@ -2,22 +2,28 @@
 use Rattle.std.specs.Prelude.{ℕ, ◌==◌, ◌||◌, Bool, true, false, not, nat_lt, nat_le, List, [], ◌∷◌, ◌++◌, length, take, count_by, position, slice_get, slice_set, slice_index, unwrap_or, option_map, option_and_then, if◌then◌else◌, Option, Some, None, Result, Ok, Err}
 use Rattle.std.specs.List.{list_any}
 use Rattle.std.specs.Str.{bytes_eq}
-use Rattle.aip_addr.specs.Ids.{id_of_router}
+use Rattle.aip_addr.specs.Ids.{id_of_key, id_of_router}
 use Rattle.aip_addr.specs.declared.ids.Id.{Id}
+use Rattle.lms_core.specs.Tree.{identifier_of, key_from, public_key_of}
 use Rattle.aip_topo.specs.declared.faults.TopoFault.{TopoFault}
 use Rattle.aip_topo.specs.declared.faults.TopoFault.TheVariants as fault
 use Rattle.aip_topo.specs.declared.lines.Line.{Line}
 use Rattle.aip_topo.specs.declared.lines.Line.TheVariants as line
+use Rattle.aip_topo.specs.declared.lines.Origin.{Origin}
+use Rattle.aip_topo.specs.declared.lines.Origin.TheVariants as origin
 use Rattle.aip_topo.specs.declared.lines.Setting.{Setting}
 use Rattle.aip_topo.specs.declared.lines.Setting.TheVariants as setting
 use Rattle.aip_topo.specs.declared.steps.Entry.{Entry}
 use Rattle.aip_topo.specs.declared.steps.Entry.TheVariants as entry
+use Rattle.aip_topo.specs.declared.steps.Found.{Found}
+use Rattle.aip_topo.specs.declared.steps.Found.TheVariants as found
 use Rattle.aip_topo.specs.declared.steps.Draft.{Draft}
 use Rattle.aip_topo.specs.declared.topology.Settings.{Settings}
 use Rattle.aip_topo.specs.declared.topology.Domain.{Domain}
 use Rattle.aip_topo.specs.declared.topology.Router.{Router}
 use Rattle.aip_topo.specs.declared.topology.Part.{Part}
 use Rattle.aip_topo.specs.declared.topology.Part.TheVariants as part
+use Rattle.aip_topo.specs.declared.topology.Key.{Key}
 use Rattle.aip_topo.specs.declared.topology.Key.TheVariants as key
 use Rattle.aip_topo.specs.declared.topology.Topology.{Topology}
 
@@ -71,7 +77,6 @@ is_many t (line.Domain _ _) = nat_le 64 (length t.domains)
 is_many t (line.Router _ _ _ _) = nat_le 256 (length t.routers)
 is_many t (line.Host _ _ _ _) = nat_le 1024 (count_by is_host t.parts)
 is_many t (line.Link _ _ _ _) = nat_le 4096 (count_by is_link t.parts)
-is_many t line.Seed = false
 
 -- the domain has this name
 abbrev pub names_domain : List ℕ → Domain → Bool
@@ -102,7 +107,6 @@ is_twice draft (line.Domain name _) = is_named name draft.topology
 is_twice draft (line.Router name _ _ _) = is_named name draft.topology
 is_twice draft (line.Host name _ _ _) = is_named name draft.topology
 is_twice draft (line.Link _ _ _ _) = false
-is_twice draft line.Seed = false
 
 -- the place of the domain that has this name
 abbrev pub domain_place : List ℕ → List Domain → Option ℕ
@@ -117,36 +121,72 @@ abbrev pub ad_at : ℕ → List Domain → Option Id
 ad_at place domains = option_map (λ domain. domain.ad) (slice_get domains place)
 
 -- a router of this name in the domain of that name, and nothing where there is no such domain
-abbrev pub router_entry : Topology → List ℕ → List ℕ → Bool → List ℕ → Option Entry
-router_entry t name domain checking master =
-    option_and_then (λ place. option_map (λ ad. entry.Router (record { name = name; domain = place; checking = checking; master = master; address = record { ad = ad; eid = id_of_router name } })) (ad_at place t.domains)) (domain_place domain t.domains)
+abbrev pub router_found : Topology → List ℕ → List ℕ → Bool → List ℕ → Option Found
+router_found t name domain checking master =
+    option_and_then (λ place. option_map (λ ad. found.Router (record { name = name; domain = place; checking = checking; master = master; address = record { ad = ad; eid = id_of_router name } })) (ad_at place t.domains)) (domain_place domain t.domains)
 
 -- a host of this name at the router of that name, and nothing where there is no such router
-abbrev pub host_entry : Topology → List ℕ → List ℕ → Bool → Id → Option Entry
-host_entry t name router guarded eid =
-    option_map (λ place. entry.Part (part.Host (record { name = name; router = place; guarded = guarded; eid = eid; key = key.Given }))) (router_place router t.routers)
+abbrev pub host_found : Topology → List ℕ → List ℕ → Bool → Origin → Option Found
+host_found t name router guarded from =
+    option_map (λ place. found.Host name place guarded from) (router_place router t.routers)
 
 -- a link of the routers of these names, and nothing where there is no such router
-abbrev pub link_entry : Topology → List ℕ → List ℕ → Bool → Bool → Option Entry
-link_entry t a b a_trusts b_trusts =
-    option_and_then (λ first. option_map (λ second. entry.Part (part.Link (record { a = first; b = second; a_trusts = a_trusts; b_trusts = b_trusts }))) (router_place b t.routers)) (router_place a t.routers)
+abbrev pub link_found : Topology → List ℕ → List ℕ → Bool → Bool → Option Found
+link_found t a b a_trusts b_trusts =
+    option_and_then (λ first. option_map (λ second. found.Link (record { a = first; b = second; a_trusts = a_trusts; b_trusts = b_trusts })) (router_place b t.routers)) (router_place a t.routers)
 
--- what a line adds, its names looked up among the domains and routers before; nothing where one of them isn't there
-abbrev pub entry_of : Topology → Line → Option Entry
-entry_of t (line.Set s value) = Some (entry.Set s value)
-entry_of t (line.Domain name ad) = Some (entry.Domain (record { name = name; ad = ad; key = key.Given }))
-entry_of t (line.Router name domain checking master) = router_entry t name domain checking master
-entry_of t (line.Host name router guarded eid) = host_entry t name router guarded eid
-entry_of t (line.Link a b a_trusts b_trusts) = link_entry t a b a_trusts b_trusts
-entry_of t line.Seed = None
+-- a line with its names looked up among the domains and routers before; nothing where one of them isn't there
+abbrev pub found_of : Topology → Line → Option Found
+found_of t (line.Set s value) = Some (found.Set s value)
+found_of t (line.Domain name from) = Some (found.Domain name from)
+found_of t (line.Router name domain checking master) = router_found t name domain checking master
+found_of t (line.Host name router guarded from) = host_found t name router guarded from
+found_of t (line.Link a b a_trusts b_trusts) = link_found t a b a_trusts b_trusts
 
--- a setting out of its range, an id whose version is 0, a domain's id whose interface byte isn't 0, a link from a router to itself
-abbrev pub is_out_of_range : Entry → Bool
-is_out_of_range (entry.Set s value) = nat_lt value 1 || nat_lt (most_of s) value
-is_out_of_range (entry.Domain domain) = slice_index domain.ad.bytes 0 == 0 || not (slice_index domain.ad.bytes 19 == 0)
-is_out_of_range (entry.Router _) = false
-is_out_of_range (entry.Part (part.Host host)) = slice_index host.eid.bytes 0 == 0
-is_out_of_range (entry.Part (part.Link link)) = link.a == link.b
+-- the version byte of an id is 0
+abbrev pub has_version_0 : Id → Bool
+has_version_0 id = slice_index id.bytes 0 == 0
+
+-- the interface byte of an id isn't 0
+abbrev pub has_interface : Id → Bool
+has_interface id = not (slice_index id.bytes 19 == 0)
+
+-- no id of a host: one whose version is 0, or an interface that is no byte
+abbrev pub is_no_eid : Origin → Bool
+is_no_eid (origin.Given id) = has_version_0 id
+is_no_eid (origin.Seed _ _ interface _) = nat_lt 255 interface
+
+-- no id of a domain: one whose version is 0, or an interface that isn't 0
+abbrev pub is_no_ad : Origin → Bool
+is_no_ad (origin.Given id) = has_version_0 id || has_interface id
+is_no_ad (origin.Seed _ _ interface _) = not (interface == 0)
+
+-- a setting out of its range, an id or an interface that can't be, a link from a router to itself
+abbrev pub is_out_of_range : Found → Bool
+is_out_of_range (found.Set s value) = nat_lt value 1 || nat_lt (most_of s) value
+is_out_of_range (found.Domain _ from) = is_no_ad from
+is_out_of_range (found.Router _) = false
+is_out_of_range (found.Host _ _ _ from) = is_no_eid from
+is_out_of_range (found.Link link) = link.a == link.b
+
+-- the key that a line gives: that of its seed, where it has one
+abbrev pub key_of : Origin → Key
+key_of (origin.Given _) = key.Given
+key_of (origin.Seed width height _ seed) = key.Made (key_from seed width height)
+
+-- the id that a line gives: the id itself, or that of the public key, with the interface
+abbrev pub id_from : Origin → Id
+id_from (origin.Given id) = id
+id_from (origin.Seed width height interface seed) = id_of_key (public_key_of (key_from seed width height)) interface
+
+-- what a line adds, with its id and its key
+abbrev pub made : Found → Entry
+made (found.Set s value) = entry.Set s value
+made (found.Domain name from) = entry.Domain (record { name = name; ad = id_from from; key = key_of from })
+made (found.Router router) = entry.Router router
+made (found.Host name router guarded from) =
+    entry.Part (part.Host (record { name = name; router = router; guarded = guarded; eid = id_from from; key = key_of from }))
+made (found.Link link) = entry.Part (part.Link link)
 
 -- the domain has this id
 abbrev pub has_ad : Id → Domain → Bool
@@ -161,12 +201,34 @@ abbrev pub has_key_id : Id → Part → Bool
 has_key_id eid (part.Host host) = bytes_eq (take 19 host.eid.bytes) (take 19 eid.bytes)
 has_key_id eid (part.Link _) = false
 
--- a domain with the id of another, a router with the id of another, a host with the key identifier of another
+-- the key was made, and has this identifier
+abbrev pub is_identified : List ℕ → Key → Bool
+is_identified id key.Given = false
+is_identified id (key.Made k) = bytes_eq (identifier_of k.seed) id
+
+-- the key of the domain has this identifier
+abbrev pub is_domain_identified : List ℕ → Domain → Bool
+is_domain_identified id domain = is_identified id domain.key
+
+-- it is a host whose key has this identifier
+abbrev pub is_host_identified : List ℕ → Part → Bool
+is_host_identified id (part.Host host) = is_identified id host.key
+is_host_identified id (part.Link _) = false
+
+-- the key was made, and its identifier is that of the key of a domain or a host
+abbrev pub is_key_taken : Topology → Key → Bool
+is_key_taken t key.Given = false
+is_key_taken t (key.Made k) =
+    list_any (is_domain_identified (identifier_of k.seed)) t.domains
+    || list_any (is_host_identified (identifier_of k.seed)) t.parts
+
+-- a domain with the id of another, a router with the id of another, a host with the key identifier of another, a key
+-- with the identifier of another
 abbrev pub is_twin : Topology → Entry → Bool
 is_twin t (entry.Set _ _) = false
-is_twin t (entry.Domain domain) = list_any (has_ad domain.ad) t.domains
+is_twin t (entry.Domain domain) = list_any (has_ad domain.ad) t.domains || is_key_taken t domain.key
 is_twin t (entry.Router router) = list_any (has_eid router.address.eid) t.routers
-is_twin t (entry.Part (part.Host host)) = list_any (has_key_id host.eid) t.parts
+is_twin t (entry.Part (part.Host host)) = list_any (has_key_id host.eid) t.parts || is_key_taken t host.key
 is_twin t (entry.Part (part.Link _)) = false
 
 -- the topology with what a line adds, behind what is there
@@ -187,17 +249,18 @@ given_with given (entry.Part _) = given
 abbrev pub draft_with : Draft → Entry → Draft
 draft_with draft e = record { topology = with_entry draft.topology e; given = given_with draft.given e }
 
--- what was found for a line, unless it is out of range or the twin of another; Unknown where nothing was found
-abbrev pub judged : Topology → Option Entry → Result Entry TopoFault
+-- what is made of what was found for a line, unless it is out of range or the twin of another; Unknown where nothing
+-- was found
+abbrev pub judged : Topology → Option Found → Result Entry TopoFault
 judged t None = Err fault.Unknown
-judged t (Some e) = if is_out_of_range e then Err fault.Range else if is_twin t e then Err fault.Twin else Ok e
+judged t (Some f) = if is_out_of_range f then Err fault.Range else if is_twin t (made f) then Err fault.Twin else Ok (made f)
 
 -- what a line adds, or its first fault: Many, Twice, Unknown, Range, Twin
 abbrev pub entry_or_fault : Draft → Line → Result Entry TopoFault
 entry_or_fault draft l =
     if is_many draft.topology l then Err fault.Many
     else if is_twice draft l then Err fault.Twice
-    else judged draft.topology (entry_of draft.topology l)
+    else judged draft.topology (found_of draft.topology l)
 
 -- the draft with what a line adds
 abbrev pub with_judged : Draft → Result Entry TopoFault → Result Draft TopoFault

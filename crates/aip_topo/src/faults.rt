@@ -18,8 +18,8 @@ pub enum TopoFault {
     /// A setting, an id or a link isn't one that can be.
     #[error("out of range")]
     Range,
-    /// Its id is that of an earlier domain, router or host.
-    #[error("an id of another")]
+    /// Its id is that of an earlier one of its kind, or its key that of an earlier domain or host.
+    #[error("an id or a key of another")]
     Twin,
     /// There are already as many domains, routers, hosts or links as there may be.
     #[error("too many of its kind")]
@@ -59,9 +59,6 @@ pub enum TopoEnd {
         /// Its first fault.
         fault: TopoFault,
     },
-    /// A line before any refused one gives a key by its seed, which isn't built yet.
-    #[error("keys from seeds are not built")]
-    Unbuilt,
     /// Memory ran out.
     #[error("out of memory")]
     Memory,

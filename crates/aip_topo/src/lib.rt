@@ -2,7 +2,8 @@
 //! and written to it.
 //!
 //! A text is a line for each of these. The first line that is refused ends the reading, with the
-//! first fault that applies to it.
+//! first fault that applies to it. A domain or a host is given by its id, or by the seed of its key:
+//! then the tree of the key is built, and the id is that of the public key.
 #![tactic(auto)]
 
 mod faults;
@@ -15,10 +16,10 @@ mod topology;
 mod writing;
 
 pub use faults::{TopoEnd, TopoFault};
-pub use lines::{Line, Setting};
+pub use lines::{Line, Origin, Setting};
 pub use lists::{Domains, Parts, Routers};
 pub use reading::read;
-pub use steps::{Draft, Entry};
+pub use steps::{Draft, Entry, Found};
 pub use topology::{Domain, HostPart, Key, LinkPart, Part, Router, Settings, Topology};
 pub use writing::write;
 

@@ -1,10 +1,11 @@
 ghost use Rattle.std.specs.Prelude.{◌≡◌, codes, Some};
 ghost use Rattle.std.specs.Str.{bytes_eq};
-ghost use Rattle.aip_topo.specs.Lines.{choice_of, domain_form, domain_line, domain_seed, host_form, host_line, host_seed, id_of, is_height, is_width, line_of, link_line, name_of, router_line, set_line, setting_of};
+ghost use Rattle.aip_topo.specs.Lines.{choice_of, domain_form, domain_line, domain_seed, height_of, host_form, host_line, host_seed, id_of, line_of, link_line, name_of, router_line, set_line, setting_of, width_of};
 
-use crate::lines::{Line, Setting};
+use crate::lines::{Line, Origin, Setting};
 use aip_addr::{Id, Name};
 use aip_text::{cut, read_hex_20, read_hex_32, read_number};
+use lms_core::{Height, Width};
 
 fn is_word(word: &[u8], expected: &[u8]) -> bool
     ensures { result ≡ bytes_eq word.now expected.now }
@@ -64,16 +65,32 @@ fn choice_of(word: &[u8], first: &[u8], second: &[u8]) -> Option<bool>
     }
 }
 
-fn is_width(word: &[u8]) -> bool
-    ensures { result ≡ is_width word.now }
+fn width_of(word: &[u8]) -> Option<Width>
+    ensures { result ≡ width_of word.now }
 {
-    is_word(word, b"W1") || is_word(word, b"W2") || is_word(word, b"W4") || is_word(word, b"W8")
+    if is_word(word, b"W1") {
+        Some(Width::W1)
+    } else if is_word(word, b"W2") {
+        Some(Width::W2)
+    } else if is_word(word, b"W4") {
+        Some(Width::W4)
+    } else if is_word(word, b"W8") {
+        Some(Width::W8)
+    } else {
+        None
+    }
 }
 
-fn is_height(word: &[u8]) -> bool
-    ensures { result ≡ is_height word.now }
+fn height_of(word: &[u8]) -> Option<Height>
+    ensures { result ≡ height_of word.now }
 {
-    is_word(word, b"H5") || is_word(word, b"H10")
+    if is_word(word, b"H5") {
+        Some(Height::H5)
+    } else if is_word(word, b"H10") {
+        Some(Height::H10)
+    } else {
+        None
+    }
 }
 
 #[tactic(auto, unfolding(crate::specs::Lines::set_line))]
@@ -87,43 +104,49 @@ fn set_line(text: &[u8]) -> Option<Line>
 }
 
 #[tactic(auto, unfolding(crate::specs::Lines::domain_seed))]
-fn domain_seed(text: &[u8]) -> Option<Line>
+fn domain_seed(text: &[u8]) -> Option<Origin>
     ensures { result ≡ domain_seed text.now }
 {
-    let (width, rest) = cut(text)?;
-    let (height, seed) = cut(rest)?;
-    let _seed = read_hex_32(seed)?;
-    if is_width(width) && is_height(height) {
-        Some(Line::Seed)
-    } else {
-        None
-    }
+    let (word, rest) = cut(text)?;
+    let width = width_of(word)?;
+    let (word, seed) = cut(rest)?;
+    let height = height_of(word)?;
+    let seed = read_hex_32(seed)?;
+    Some(Origin::Seed {
+        width,
+        height,
+        interface: 0,
+        seed,
+    })
 }
 
 #[tactic(auto, unfolding(crate::specs::Lines::host_seed))]
-fn host_seed(text: &[u8]) -> Option<Line>
+fn host_seed(text: &[u8]) -> Option<Origin>
     ensures { result ≡ host_seed text.now }
 {
-    let (width, rest) = cut(text)?;
-    let (height, rest) = cut(rest)?;
-    let (interface, seed) = cut(rest)?;
-    let _interface = read_number(interface)?;
-    let _seed = read_hex_32(seed)?;
-    if is_width(width) && is_height(height) {
-        Some(Line::Seed)
-    } else {
-        None
-    }
+    let (word, rest) = cut(text)?;
+    let width = width_of(word)?;
+    let (word, rest) = cut(rest)?;
+    let height = height_of(word)?;
+    let (word, seed) = cut(rest)?;
+    let interface = read_number(word)?;
+    let seed = read_hex_32(seed)?;
+    Some(Origin::Seed {
+        width,
+        height,
+        interface,
+        seed,
+    })
 }
 
 #[tactic(auto, unfolding(crate::specs::Lines::domain_form))]
-fn domain_form(name: Name, text: &[u8]) -> Option<Line>
-    ensures { result ≡ domain_form name text.now }
+fn domain_form(text: &[u8]) -> Option<Origin>
+    ensures { result ≡ domain_form text.now }
 {
     let (form, rest) = cut(text)?;
     if is_word(form, b"id") {
-        let ad = id_of(rest)?;
-        Some(Line::Domain { name, ad })
+        let id = id_of(rest)?;
+        Some(Origin::Given(id))
     } else if is_word(form, b"seed") {
         domain_seed(rest)
     } else {
@@ -137,7 +160,8 @@ fn domain_line(text: &[u8]) -> Option<Line>
 {
     let (word, rest) = cut(text)?;
     let name = name_of(word)?;
-    domain_form(name, rest)
+    let origin = domain_form(rest)?;
+    Some(Line::Domain { name, origin })
 }
 
 #[tactic(auto, unfolding(crate::specs::Lines::router_line))]
@@ -160,18 +184,13 @@ fn router_line(text: &[u8]) -> Option<Line>
 }
 
 #[tactic(auto, unfolding(crate::specs::Lines::host_form))]
-fn host_form(name: Name, router: Name, guarded: bool, text: &[u8]) -> Option<Line>
-    ensures { result ≡ host_form name router guarded text.now }
+fn host_form(text: &[u8]) -> Option<Origin>
+    ensures { result ≡ host_form text.now }
 {
     let (form, rest) = cut(text)?;
     if is_word(form, b"id") {
-        let eid = id_of(rest)?;
-        Some(Line::Host {
-            name,
-            router,
-            guarded,
-            eid,
-        })
+        let id = id_of(rest)?;
+        Some(Origin::Given(id))
     } else if is_word(form, b"seed") {
         host_seed(rest)
     } else {
@@ -189,7 +208,13 @@ fn host_line(text: &[u8]) -> Option<Line>
     let router = name_of(word)?;
     let (guard, rest) = cut(rest)?;
     let guarded = choice_of(guard, b"guarded", b"plain")?;
-    host_form(name, router, guarded, rest)
+    let origin = host_form(rest)?;
+    Some(Line::Host {
+        name,
+        router,
+        guarded,
+        origin,
+    })
 }
 
 #[tactic(auto, unfolding(crate::specs::Lines::link_line))]

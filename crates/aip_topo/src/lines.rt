@@ -1,4 +1,5 @@
 use aip_addr::{Id, Name};
+use lms_core::{Height, Width};
 
 /// A setting of a topology.
 #[derive(Clone, Copy, Debug, PartialEq, Eq)]
@@ -21,6 +22,25 @@ pub enum Setting {
     Wildcache,
 }
 
+/// How a line gives the id of a domain or a host.
+#[derive(Clone, Copy)]
+pub enum Origin {
+    /// `id HEX40`: the id itself.
+    Given(Id),
+    /// `seed W H HEX64` of a domain, `seed W H NUMBER HEX64` of a host: the id of the key that the
+    /// seed makes.
+    Seed {
+        /// The width of the key's one-time signatures.
+        width: Width,
+        /// The height of its tree.
+        height: Height,
+        /// The interface byte of the id, 0 for a domain.
+        interface: u64,
+        /// The secret seed.
+        seed: [u8; 32],
+    },
+}
+
 /// What a line of a topology says, before its names are looked up.
 #[derive(Clone, Copy)]
 pub enum Line {
@@ -31,12 +51,12 @@ pub enum Line {
         /// Its value.
         value: u64,
     },
-    /// `domain NAME id HEX40`
+    /// `domain NAME id HEX40`, or `domain NAME seed W H HEX64`
     Domain {
         /// The domain's name.
         name: Name,
-        /// Its id.
-        ad: Id,
+        /// How its id is given.
+        origin: Origin,
     },
     /// `router NAME DOMAIN open HEX64`, or `checking` in place of `open`
     Router {
@@ -49,7 +69,8 @@ pub enum Line {
         /// Its master secret.
         master: [u8; 32],
     },
-    /// `host NAME ROUTER plain id HEX40`, or `guarded` in place of `plain`
+    /// `host NAME ROUTER plain id HEX40`, or `guarded` in place of `plain`, or
+    /// `seed W H NUMBER HEX64` in place of the id
     Host {
         /// The host's name.
         name: Name,
@@ -57,8 +78,8 @@ pub enum Line {
         router: Name,
         /// Whether a guard stands before its sending.
         guarded: bool,
-        /// Its id.
-        eid: Id,
+        /// How its id is given.
+        origin: Origin,
     },
     /// `link ROUTER ROUTER END END`, where END is `trusted` or `checked`
     Link {
@@ -71,6 +92,4 @@ pub enum Line {
         /// Whether the second does.
         b_trusts: bool,
     },
-    /// A domain or a host that is given by the seed of its key
-    Seed,
 }

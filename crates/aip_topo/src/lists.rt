@@ -18,7 +18,7 @@ pub const MOST_HOSTS: usize = 1024;
 pub const MOST_LINKS: usize = 4096;
 
 /// The domains of a topology. Contracts see the list of them.
-#[derive(Debug, Drop)]
+#[derive(Drop)]
 pub struct Domains {
     content: Vec<Domain>,
 }
@@ -110,7 +110,7 @@ impl Routers {
 }
 
 /// The hosts and links of a topology, in the order of their ports. Contracts see the list of them.
-#[derive(Debug, Drop)]
+#[derive(Drop)]
 pub struct Parts {
     content: Vec<Part>,
 }

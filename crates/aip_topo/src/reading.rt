@@ -2,7 +2,7 @@ ghost use Rattle.std.specs.Prelude.{◌≡◌, ◌<◌, ◌≤◌, ◌+◌, Some
 ghost use Rattle.aip_text.specs.Lines.{lines_of};
 ghost use Rattle.aip_topo.specs.Lines.{line_of};
 ghost use Rattle.aip_topo.specs.Sound.{IsSound};
-ghost use Rattle.aip_topo.specs.Reading.{Tells, empty_draft, is_long, is_seed, topology_of, with_lines, with_read, with_text};
+ghost use Rattle.aip_topo.specs.Reading.{Tells, empty_draft, is_long, topology_of, with_lines, with_read, with_text};
 
 use crate::faults::{TopoEnd, TopoFault};
 use crate::line_reader::line_of;
@@ -19,8 +19,8 @@ const LONGEST_LINE: usize = 20_000;
 /// The most bytes of a text that are read, line feeds included.
 const LONGEST_TEXT: usize = 1_048_576;
 
-/// The topology that the text gives. A refusal names the first line that is refused, with the first
-/// fault that applies to it.
+/// The topology that the text gives, with the trees of the keys that its seeds make. A refusal names
+/// the first line that is refused, with the first fault that applies to it.
 pub fn read(alloc: Global, text: &[u8]) -> Result<Topology, TopoEnd>
     ensures found { IfOk result (λ topology. topology_of text.now ≡ Ok topology) }
     ensures sound { IfOk result IsSound }
@@ -34,7 +34,7 @@ fn read_exactly(alloc: Global, text: &[u8]) -> Result<Topology, TopoEnd>
     ensures refused { IfErr result (λ end. Tells end (topology_of text.now)) }
 {
     let mut draft = new_draft(alloc);
-    read_lines(&mut draft, text)?;
+    read_lines(alloc, &mut draft, text)?;
     let Draft { topology, .. } = draft;
     Ok(topology)
 }
@@ -62,7 +62,7 @@ fn new_draft(alloc: Global) -> Draft
     }
 }
 
-fn read_lines(draft: &mut Draft, text: &[u8]) -> Result<(), TopoEnd>
+fn read_lines(alloc: Global, draft: &mut Draft, text: &[u8]) -> Result<(), TopoEnd>
     ensures ok { OnOk result (with_lines (length text.now) 1 0 draft.old (lines_of text.now) ≡ Ok draft.new) }
     ensures err { IfErr result (λ end. Tells end (with_lines (length text.now) 1 0 draft.old (lines_of text.now))) }
 {
@@ -71,7 +71,7 @@ fn read_lines(draft: &mut Draft, text: &[u8]) -> Result<(), TopoEnd>
     let mut start = 0;
     'lines: while let Some(first) = next_line(rest) {
         let after = start + first.line.len() + 1;
-        read_text(draft, number, after.min(text.len()), first.line)?;
+        read_text(alloc, draft, number, after.min(text.len()), first.line)?;
         rest = first.rest;
         number += 1;
         start = after;
@@ -80,7 +80,13 @@ fn read_lines(draft: &mut Draft, text: &[u8]) -> Result<(), TopoEnd>
 }
 
 // Reads the line of this number, which ends at this place of the text.
-fn read_text(draft: &mut Draft, number: u32, ending: usize, text: &[u8]) -> Result<(), TopoEnd>
+fn read_text(
+    alloc: Global,
+    draft: &mut Draft,
+    number: u32,
+    ending: usize,
+    text: &[u8],
+) -> Result<(), TopoEnd>
     ensures ok { OnOk result (with_text number ending draft.old text.now ≡ Ok draft.new) }
     ensures err { IfErr result (λ end. Tells end (with_text number ending draft.old text.now)) }
     ensures short { OnOk result (ending ≤ 1048576) }
@@ -96,7 +102,7 @@ fn read_text(draft: &mut Draft, number: u32, ending: usize, text: &[u8]) -> Resu
     }
     match line_of(text) {
         None => Err(refused(number, TopoFault::Form)),
-        Some(line) => take(draft, number, &line),
+        Some(line) => take(alloc, draft, number, &line),
     }
 }
 
@@ -112,21 +118,12 @@ fn is_long(ending: usize, text: &[u8]) -> bool
     text.len() > LONGEST_LINE || ending > LONGEST_TEXT
 }
 
-fn is_seed(line: &Line) -> bool
-    ensures { result ≡ is_seed line.now }
-{
-    matches!(line, Line::Seed)
-}
-
 // Takes the line of this number into the draft.
-fn take(draft: &mut Draft, number: u32, line: &Line) -> Result<(), TopoEnd>
+fn take(alloc: Global, draft: &mut Draft, number: u32, line: &Line) -> Result<(), TopoEnd>
     ensures ok { OnOk result (with_read number draft.old (Some line.now) ≡ Ok draft.new) }
     ensures err { IfErr result (λ end. Tells end (with_read number draft.old (Some line.now))) }
 {
-    if is_seed(line) {
-        return Err(TopoEnd::Unbuilt);
-    }
-    match entry_or_fault(draft, line) {
+    match entry_or_fault(alloc, draft, line)? {
         Ok(entry) => {
             add(draft, entry)?;
             Ok(())

@@ -1,15 +1,51 @@
-ghost use Rattle.std.specs.Prelude.{◌≡◌, ◌<◌, ◌≤◌, count_by, length, IfOk, IsTrue, OnOk};
+ghost use Rattle.std.specs.Prelude.{◌≡◌, ◌<◌, ◌≤◌, false, count_by, length, IfOk, IsTrue, OnOk, Some};
 ghost use Rattle.std.specs.List.{list_any};
-ghost use Rattle.aip_topo.specs.Steps.{most_of, with_setting, is_host, is_link, is_many, is_named, is_twice, was_set, names_domain, names_router, names_host, domain_place, router_place, ad_at, router_entry, host_entry, link_entry, entry_of, is_out_of_range, has_ad, has_eid, has_key_id, is_twin, judged, entry_or_fault, fits, draft_with};
+ghost use Rattle.aip_topo.specs.Steps.{most_of, with_setting, is_host, is_link, is_many, is_named, is_twice, was_set, names_domain, names_router, names_host, domain_place, router_place, ad_at, router_found, host_found, link_found, found_of, is_no_ad, is_no_eid, is_out_of_range, key_of, id_from, made, has_ad, has_eid, has_key_id, is_domain_identified, is_host_identified, is_identified, is_key_taken, is_twin, judged, entry_or_fault, fits, draft_with};
 
 use crate::faults::TopoFault;
-use crate::lines::{Line, Setting};
+use crate::lines::{Line, Origin, Setting};
 use crate::lists::{Domains, MOST_DOMAINS, MOST_HOSTS, MOST_LINKS, MOST_ROUTERS, Routers};
 use crate::topology::{Domain, HostPart, Key, LinkPart, Part, Router, Settings, Topology};
 use aip_addr::{Address, Id, Memory, Name};
+use lms_core::Tree;
+use std::alloc::Global;
 
-/// What a line adds to a topology, once its names are looked up.
+/// A line whose names are looked up, before its key is made.
 #[derive(Clone, Copy)]
+pub enum Found {
+    /// The value of a setting.
+    Set {
+        /// The setting.
+        setting: Setting,
+        /// Its value.
+        value: u64,
+    },
+    /// A domain.
+    Domain {
+        /// Its name.
+        name: Name,
+        /// How its id is given.
+        origin: Origin,
+    },
+    /// A router.
+    Router(Router),
+    /// A host.
+    Host {
+        /// Its name.
+        name: Name,
+        /// The place of its router among the routers.
+        router: u16,
+        /// Whether a guard stands before its sending.
+        guarded: bool,
+        /// How its id is given.
+        origin: Origin,
+    },
+    /// A link.
+    Link(LinkPart),
+}
+
+/// What a line adds to a topology, with its id and its key.
+#[derive(Drop)]
 pub enum Entry {
     /// The value of a setting.
     Set {
@@ -24,6 +60,13 @@ pub enum Entry {
     Router(Router),
     /// A host or a link.
     Part(Part),
+}
+
+/// An id and its key.
+#[derive(Drop)]
+struct KeyedId {
+    id: Id,
+    key: Key,
 }
 
 /// A topology as far as its text was read.
@@ -142,7 +185,7 @@ fn is_many(topology: &Topology, line: &Line) -> bool
     ensures { result ≡ is_many topology.now line.now }
 {
     match line {
-        Line::Set { .. } | Line::Seed => false,
+        Line::Set { .. } => false,
         Line::Domain { .. } => topology.domains.as_slice().len() >= MOST_DOMAINS,
         Line::Router { .. } => topology.routers.as_slice().len() >= MOST_ROUTERS,
         Line::Host { .. } => count_hosts(topology.parts.as_slice()) >= MOST_HOSTS,
@@ -199,7 +242,7 @@ fn is_twice(draft: &Draft, line: &Line) -> bool
         Line::Domain { name, .. } => is_named(&draft.topology, name),
         Line::Router { name, .. } => is_named(&draft.topology, name),
         Line::Host { name, .. } => is_named(&draft.topology, name),
-        Line::Link { .. } | Line::Seed => false,
+        Line::Link { .. } => false,
     }
 }
 
@@ -242,18 +285,18 @@ fn ad_at(domains: &Domains, place: u16) -> Option<Id>
     }
 }
 
-fn router_entry(
+fn router_found(
     topology: &Topology,
     name: &Name,
     domain: &Name,
     checking: bool,
     master: &[u8; 32],
-) -> Option<Entry>
-    ensures { result ≡ router_entry topology.now name.now domain.now checking master.now }
+) -> Option<Found>
+    ensures { result ≡ router_found topology.now name.now domain.now checking master.now }
 {
     let place = domain_place(&topology.domains, domain)?;
     let ad = ad_at(&topology.domains, place)?;
-    Some(Entry::Router(Router {
+    Some(Found::Router(Router {
         name: *name,
         domain: place,
         checking,
@@ -265,97 +308,184 @@ fn router_entry(
     }))
 }
 
-fn host_entry(
+fn host_found(
     topology: &Topology,
     name: &Name,
     router: &Name,
     guarded: bool,
-    eid: &Id,
-) -> Option<Entry>
-    ensures { result ≡ host_entry topology.now name.now router.now guarded eid.now }
+    origin: &Origin,
+) -> Option<Found>
+    ensures { result ≡ host_found topology.now name.now router.now guarded origin.now }
 {
     let place = router_place(&topology.routers, router)?;
-    Some(Entry::Part(Part::Host(HostPart {
+    Some(Found::Host {
         name: *name,
         router: place,
         guarded,
-        eid: *eid,
-        key: Key::Given,
-    })))
+        origin: *origin,
+    })
 }
 
-fn link_entry(
+fn link_found(
     topology: &Topology,
     a: &Name,
     b: &Name,
     a_trusts: bool,
     b_trusts: bool,
-) -> Option<Entry>
-    ensures { result ≡ link_entry topology.now a.now b.now a_trusts b_trusts }
+) -> Option<Found>
+    ensures { result ≡ link_found topology.now a.now b.now a_trusts b_trusts }
 {
     let first = router_place(&topology.routers, a)?;
     let second = router_place(&topology.routers, b)?;
-    Some(Entry::Part(Part::Link(LinkPart {
+    Some(Found::Link(LinkPart {
         a: first,
         b: second,
         a_trusts,
         b_trusts,
-    })))
+    }))
 }
 
-// What the line adds. None where a name that it looks up isn't there.
-fn entry_of(topology: &Topology, line: &Line) -> Option<Entry>
-    ensures { result ≡ entry_of topology.now line.now }
+// The line with its names looked up. None where one of them isn't there.
+fn found_of(topology: &Topology, line: &Line) -> Option<Found>
+    ensures { result ≡ found_of topology.now line.now }
 {
     match line {
-        Line::Set { setting, value } => Some(Entry::Set {
+        Line::Set { setting, value } => Some(Found::Set {
             setting: *setting,
             value: *value,
         }),
-        Line::Domain { name, ad } => Some(Entry::Domain(Domain {
+        Line::Domain { name, origin } => Some(Found::Domain {
             name: *name,
-            ad: *ad,
-            key: Key::Given,
-        })),
+            origin: *origin,
+        }),
         Line::Router {
             name,
             domain,
             checking,
             master,
-        } => router_entry(topology, name, domain, *checking, master),
+        } => router_found(topology, name, domain, *checking, master),
         Line::Host {
             name,
             router,
             guarded,
-            eid,
-        } => host_entry(topology, name, router, *guarded, eid),
+            origin,
+        } => host_found(topology, name, router, *guarded, origin),
         Line::Link {
             a,
             b,
             a_trusts,
             b_trusts,
-        } => link_entry(topology, a, b, *a_trusts, *b_trusts),
-        Line::Seed => None,
+        } => link_found(topology, a, b, *a_trusts, *b_trusts),
     }
 }
 
-fn is_part_out_of_range(part: &Part) -> bool
-    ensures { result ≡ is_out_of_range (Entry.Part part.now) }
+fn is_no_ad(origin: &Origin) -> bool
+    ensures { result ≡ is_no_ad origin.now }
 {
-    match part {
-        Part::Host(host) => host.eid.bytes[0] == 0,
-        Part::Link(link) => link.a == link.b,
+    match origin {
+        Origin::Given(id) => id.bytes[0] == 0 || id.bytes[19] != 0,
+        Origin::Seed { interface, .. } => *interface != 0,
     }
 }
 
-fn is_out_of_range(entry: &Entry) -> bool
-    ensures { result ≡ is_out_of_range entry.now }
+fn is_no_eid(origin: &Origin) -> bool
+    ensures { result ≡ is_no_eid origin.now }
 {
-    match entry {
-        Entry::Set { setting, value } => *value < 1 || *value > setting.most(),
-        Entry::Domain(domain) => domain.ad.bytes[0] == 0 || domain.ad.bytes[19] != 0,
-        Entry::Router(_) => false,
-        Entry::Part(part) => is_part_out_of_range(part),
+    match origin {
+        Origin::Given(id) => id.bytes[0] == 0,
+        Origin::Seed { interface, .. } => *interface > 255,
+    }
+}
+
+fn is_out_of_range(found: &Found) -> bool
+    ensures { result ≡ is_out_of_range found.now }
+{
+    match found {
+        Found::Set { setting, value } => *value < 1 || *value > setting.most(),
+        Found::Domain { origin, .. } => is_no_ad(origin),
+        Found::Router(_) => false,
+        Found::Host { origin, .. } => is_no_eid(origin),
+        Found::Link(link) => link.a == link.b,
+    }
+}
+
+// Makes the key that a line gives, where it gives one. The only error is want of memory.
+fn keyed(alloc: Global, origin: &Origin) -> Result<KeyedId, Memory>
+    requires { is_no_eid origin.now ≡ false }
+    ensures { IfOk result (λ keyed. (keyed.id ≡ id_from origin.now) × (keyed.key ≡ key_of origin.now)) }
+{
+    match origin {
+        Origin::Given(id) => Ok(KeyedId {
+            id: *id,
+            key: Key::Given,
+        }),
+        Origin::Seed {
+            width,
+            height,
+            interface,
+            seed,
+        } => {
+            let tree = Tree::build(alloc, seed, *width, *height)?;
+            let id = Id::of_key(&tree.public().bytes(), *interface as u8);
+            Ok(KeyedId {
+                id,
+                key: Key::Made(tree),
+            })
+        }
+    }
+}
+
+fn made_domain(alloc: Global, name: Name, origin: &Origin) -> Result<Entry, Memory>
+    requires { is_no_ad origin.now ≡ false }
+    ensures { IfOk result (λ entry. entry ≡ made (Found.Domain name origin.now)) }
+{
+    let keyed = keyed(alloc, origin)?;
+    Ok(Entry::Domain(Domain {
+        name,
+        ad: keyed.id,
+        key: keyed.key,
+    }))
+}
+
+fn made_host(
+    alloc: Global,
+    name: Name,
+    router: u16,
+    guarded: bool,
+    origin: &Origin,
+) -> Result<Entry, Memory>
+    requires { is_no_eid origin.now ≡ false }
+    ensures { IfOk result (λ entry. entry ≡ made (Found.Host name router guarded origin.now)) }
+{
+    let keyed = keyed(alloc, origin)?;
+    Ok(Entry::Part(Part::Host(HostPart {
+        name,
+        router,
+        guarded,
+        eid: keyed.id,
+        key: keyed.key,
+    })))
+}
+
+// What the line adds. The only error is want of memory.
+fn made(alloc: Global, found: &Found) -> Result<Entry, Memory>
+    requires { is_out_of_range found.now ≡ false }
+    ensures { IfOk result (λ entry. entry ≡ made found.now) }
+{
+    match found {
+        Found::Set { setting, value } => Ok(Entry::Set {
+            setting: *setting,
+            value: *value,
+        }),
+        Found::Domain { name, origin } => made_domain(alloc, *name, origin),
+        Found::Router(router) => Ok(Entry::Router(*router)),
+        Found::Host {
+            name,
+            router,
+            guarded,
+            origin,
+        } => made_host(alloc, *name, *router, *guarded, origin),
+        Found::Link(link) => Ok(Entry::Part(Part::Link(*link))),
     }
 }
 
@@ -386,52 +516,124 @@ fn is_key_id_taken(parts: &[Part], eid: &Id) -> bool
     parts.iter().any(|p| has_key_id(p, eid))
 }
 
+// Whether the key was made and has this identifier.
+fn is_identified(key: &Key, id: &[u8; 16]) -> bool
+    ensures { result ≡ is_identified id.now key.now }
+{
+    match key {
+        Key::Given => false,
+        Key::Made(tree) => tree.id() == *id,
+    }
+}
+
+fn is_host_identified(part: &Part, id: &[u8; 16]) -> bool
+    ensures { result ≡ is_host_identified id.now part.now }
+{
+    match part {
+        Part::Host(host) => is_identified(&host.key, id),
+        Part::Link(_) => false,
+    }
+}
+
+fn identifies_a_domain(domains: &[Domain], id: &[u8; 16]) -> bool
+    ensures { result ≡ list_any (is_domain_identified id.now) domains.now }
+{
+    domains.iter().any(|d| is_identified(&d.key, id))
+}
+
+fn identifies_a_host(parts: &[Part], id: &[u8; 16]) -> bool
+    ensures { result ≡ list_any (is_host_identified id.now) parts.now }
+{
+    parts.iter().any(|p| is_host_identified(p, id))
+}
+
+fn is_key_taken(topology: &Topology, key: &Key) -> bool
+    ensures { result ≡ is_key_taken topology.now key.now }
+{
+    match key {
+        Key::Given => false,
+        Key::Made(tree) => {
+            let id = tree.id();
+            identifies_a_domain(topology.domains.as_slice(), &id)
+                || identifies_a_host(topology.parts.as_slice(), &id)
+        }
+    }
+}
+
+fn is_part_twin(topology: &Topology, part: &Part) -> bool
+    ensures { result ≡ is_twin topology.now (Entry.Part part.now) }
+{
+    match part {
+        Part::Host(host) => {
+            is_key_id_taken(topology.parts.as_slice(), &host.eid)
+                || is_key_taken(topology, &host.key)
+        }
+        Part::Link(_) => false,
+    }
+}
+
 fn is_twin(topology: &Topology, entry: &Entry) -> bool
     ensures { result ≡ is_twin topology.now entry.now }
 {
     match entry {
         Entry::Set { .. } => false,
-        Entry::Domain(domain) => is_ad_taken(topology.domains.as_slice(), &domain.ad),
+        Entry::Domain(domain) => {
+            is_ad_taken(topology.domains.as_slice(), &domain.ad)
+                || is_key_taken(topology, &domain.key)
+        }
         Entry::Router(router) => is_eid_taken(topology.routers.as_slice(), &router.address.eid),
-        Entry::Part(Part::Host(host)) => is_key_id_taken(topology.parts.as_slice(), &host.eid),
-        Entry::Part(Part::Link(_)) => false,
+        Entry::Part(part) => is_part_twin(topology, part),
     }
 }
 
 /// What the line adds to the draft, or the first fault of Many, Twice, Unknown, Range and Twin that
-/// applies to it.
-pub fn entry_or_fault(draft: &Draft, line: &Line) -> Result<Entry, TopoFault>
-    ensures exact { result ≡ entry_or_fault draft.now line.now }
-    ensures fits { IfOk result (λ entry. IsTrue (fits draft.now.topology entry)) }
+/// applies to it. The only error is want of memory.
+pub fn entry_or_fault(
+    alloc: Global,
+    draft: &Draft,
+    line: &Line,
+) -> Result<Result<Entry, TopoFault>, Memory>
+    ensures exact { IfOk result (λ told. told ≡ entry_or_fault draft.now line.now) }
+    ensures fits { IfOk result (λ told. IfOk told (λ entry. IsTrue (fits draft.now.topology entry))) }
 {
-    judged_entry(draft, line)
+    judged_entry(alloc, draft, line)
 }
 
-fn judged_entry(draft: &Draft, line: &Line) -> Result<Entry, TopoFault>
-    ensures { result ≡ entry_or_fault draft.now line.now }
+fn judged_entry(
+    alloc: Global,
+    draft: &Draft,
+    line: &Line,
+) -> Result<Result<Entry, TopoFault>, Memory>
+    ensures { IfOk result (λ told. told ≡ entry_or_fault draft.now line.now) }
 {
     if is_many(&draft.topology, line) {
-        return Err(TopoFault::Many);
+        return Ok(Err(TopoFault::Many));
     }
     if is_twice(draft, line) {
-        return Err(TopoFault::Twice);
+        return Ok(Err(TopoFault::Twice));
     }
-    match entry_of(&draft.topology, line) {
-        None => Err(TopoFault::Unknown),
-        Some(entry) => judged(&draft.topology, entry),
+    match found_of(&draft.topology, line) {
+        None => Ok(Err(TopoFault::Unknown)),
+        Some(found) => judged(alloc, &draft.topology, &found),
     }
 }
 
-fn judged(topology: &Topology, entry: Entry) -> Result<Entry, TopoFault>
-    ensures { result ≡ judged topology.now (Some entry) }
+fn judged(
+    alloc: Global,
+    topology: &Topology,
+    found: &Found,
+) -> Result<Result<Entry, TopoFault>, Memory>
+    ensures { IfOk result (λ told. told ≡ judged topology.now (Some found.now)) }
 {
-    if is_out_of_range(&entry) {
-        return Err(TopoFault::Range);
+    if is_out_of_range(found) {
+        return Ok(Err(TopoFault::Range));
     }
+    let entry = made(alloc, found)?;
     if is_twin(topology, &entry) {
-        return Err(TopoFault::Twin);
+        Ok(Err(TopoFault::Twin))
+    } else {
+        Ok(Ok(entry))
     }
-    Ok(entry)
 }
 
 /// Adds to the draft what a line gave. The only error is want of memory.

@@ -1,6 +1,6 @@
 use super::*;
 use aip_addr::Memory;
-use aip_text::{push_hex, push_number, push_text};
+use aip_text::{push_hex, push_number, push_text, read_hex_20};
 use std::alloc::Global;
 use std::test::Fail;
 
@@ -19,10 +19,6 @@ fn refusal(alloc: Global, text: &[u8]) -> Option<(u32, u64)> {
     }
 }
 
-fn is_unbuilt(alloc: Global, text: &[u8]) -> bool {
-    matches!(read(alloc, text), Err(TopoEnd::Unbuilt))
-}
-
 #[test]
 fn a_small_network_is_read_and_written(rt: HostRuntime) -> Result<(), Fail> {
     let network = read(rt.alloc(), SMALL)?;
@@ -33,7 +29,8 @@ fn a_small_network_is_read_and_written(rt: HostRuntime) -> Result<(), Fail> {
     let again = read(rt.alloc(), text.as_slice())?;
     assert_eq!(rt; again.settings, network.settings);
     assert_eq!(rt; again.routers.as_slice(), network.routers.as_slice());
-    assert_eq!(rt; again.parts.as_slice(), network.parts.as_slice());
+    let same = write(rt.alloc(), &again)?;
+    assert_eq!(rt; same.as_slice(), SMALL_WHOLE);
     Ok(())
 }
 
@@ -199,20 +196,155 @@ fn lines_that_are_too_long(rt: HostRuntime) -> Result<(), Fail> {
     Ok(())
 }
 
+/// A network in which a domain and two hosts are given by the seeds of their keys.
+const KEYED: &[u8] =
+    b"domain d seed W4 H5 3131313131313131313131313131313131313131313131313131313131313131\ndomain e id 0111111111111111111111111111111111111100\nrouter r d open 0000000000000000000000000000000000000000000000000000000000000000\nhost a r guarded seed W4 H5 0 0101010101010101010101010101010101010101010101010101010101010101\nhost b r plain seed W1 H5 255 1515151515151515151515151515151515151515151515151515151515151515\nhost c r plain id 01cccccccccccccccccccccccccccccccccccc07\n";
+
+/// Its canonical text.
+const KEYED_WHOLE: &[u8] =
+    b"set accept 600\nset cache 64\nset epoch 60\nset filter 16\nset log 128\nset threshold 8\nset wild 600\nset wildcache 8\ndomain d seed W4 H5 3131313131313131313131313131313131313131313131313131313131313131\ndomain e id 0111111111111111111111111111111111111100\nrouter r d open 0000000000000000000000000000000000000000000000000000000000000000\nhost a r guarded seed W4 H5 0 0101010101010101010101010101010101010101010101010101010101010101\nhost b r plain seed W1 H5 255 1515151515151515151515151515151515151515151515151515151515151515\nhost c r plain id 01cccccccccccccccccccccccccccccccccccc07\n";
+
+fn eid_at(parts: &[Part], place: usize) -> Option<[u8; 20]> {
+    match parts.get(place) {
+        Some(Part::Host(host)) => Some(host.eid.bytes),
+        _ => None,
+    }
+}
+
+fn ad_at(domains: &[Domain], place: usize) -> Option<[u8; 20]> {
+    match domains.get(place) {
+        Some(domain) => Some(domain.ad.bytes),
+        None => None,
+    }
+}
+
 #[test]
-fn keys_from_seeds_are_not_built(rt: HostRuntime) -> Result<(), Fail> {
-    assert!(rt;
-        is_unbuilt(
+fn ids_of_keys(rt: HostRuntime) -> Result<(), Fail> {
+    let network = read(rt.alloc(), KEYED)?;
+    assert_eq!(rt;
+        ad_at(network.domains.as_slice(), 0),
+        read_hex_20(b"01fd22979883654eeff4dbd61711167a3467d700")
+    );
+    assert_eq!(rt;
+        eid_at(network.parts.as_slice(), 0),
+        read_hex_20(b"014b9c00c66d49570c20a6f6d68acc494fcddb00")
+    );
+    assert_eq!(rt;
+        eid_at(network.parts.as_slice(), 1),
+        read_hex_20(b"013c14e5fbf1c85e4c0723b642b58cc8aeca3eff")
+    );
+    Ok(())
+}
+
+#[test]
+fn a_network_with_keys_is_written_and_read_back(rt: HostRuntime) -> Result<(), Fail> {
+    let network = read(rt.alloc(), KEYED)?;
+    let text = write(rt.alloc(), &network)?;
+    assert_eq!(rt; text.as_slice(), KEYED_WHOLE);
+    let again = read(rt.alloc(), text.as_slice())?;
+    assert_eq!(rt;
+        eid_at(again.parts.as_slice(), 1),
+        eid_at(network.parts.as_slice(), 1)
+    );
+    let same = write(rt.alloc(), &again)?;
+    assert_eq!(rt; same.as_slice(), KEYED_WHOLE);
+    Ok(())
+}
+
+#[test]
+fn keys_of_others(rt: HostRuntime) -> Result<(), Fail> {
+    // Two hosts with one key.
+    assert_eq!(rt;
+        refusal(
             rt.alloc(),
-            b"domain d seed W4 H5 0000000000000000000000000000000000000000000000000000000000000000\nset cache 0\n"
-        )
+            b"domain d id 0111111111111111111111111111111111111100\nrouter r d open 0000000000000000000000000000000000000000000000000000000000000000\nhost a r plain seed W4 H5 0 0101010101010101010101010101010101010101010101010101010101010101\nhost b r plain seed W4 H5 0 0101010101010101010101010101010101010101010101010101010101010101\n"
+        ),
+        Some((4, 5))
+    );
+    // Two domains with one identifier, and different ids.
+    assert_eq!(rt;
+        refusal(
+            rt.alloc(),
+            b"domain d seed W4 H5 0101010101010101010101010101010101010101010101010101010101010101\ndomain e seed W1 H5 0101010101010101010101010101010101010101010101010101010101010101\n"
+        ),
+        Some((2, 5))
+    );
+    // A domain and a host.
+    assert_eq!(rt;
+        refusal(
+            rt.alloc(),
+            b"domain d seed W1 H5 0101010101010101010101010101010101010101010101010101010101010101\nrouter r d open 0000000000000000000000000000000000000000000000000000000000000000\nhost a r plain seed W1 H5 3 0101010101010101010101010101010101010101010101010101010101010101\n"
+        ),
+        Some((3, 5))
+    );
+    Ok(())
+}
+
+#[test]
+fn given_ids_and_made_ones(rt: HostRuntime) -> Result<(), Fail> {
+    // An id that was given has the key identifier of a key that was made, whichever comes first.
+    assert_eq!(rt;
+        refusal(
+            rt.alloc(),
+            b"domain d id 0111111111111111111111111111111111111100\nrouter r d open 0000000000000000000000000000000000000000000000000000000000000000\nhost a r plain seed W4 H5 0 0101010101010101010101010101010101010101010101010101010101010101\nhost b r plain id 014b9c00c66d49570c20a6f6d68acc494fcddb07\n"
+        ),
+        Some((4, 5))
     );
     assert_eq!(rt;
         refusal(
             rt.alloc(),
-            b"set cache 0\ndomain d seed W4 H5 0000000000000000000000000000000000000000000000000000000000000000\n"
+            b"domain d id 0111111111111111111111111111111111111100\nrouter r d open 0000000000000000000000000000000000000000000000000000000000000000\nhost b r plain id 014b9c00c66d49570c20a6f6d68acc494fcddb07\nhost a r plain seed W4 H5 0 0101010101010101010101010101010101010101010101010101010101010101\n"
         ),
-        Some((1, 4))
+        Some((4, 5))
+    );
+    assert_eq!(rt;
+        refusal(
+            rt.alloc(),
+            b"domain d seed W4 H5 3131313131313131313131313131313131313131313131313131313131313131\ndomain e id 01fd22979883654eeff4dbd61711167a3467d700\n"
+        ),
+        Some((2, 5))
+    );
+    // A domain and a host may have one id.
+    let shared = read(
+        rt.alloc(),
+        b"domain d id 0111111111111111111111111111111111111100\nrouter r d open 0000000000000000000000000000000000000000000000000000000000000000\nhost a r plain id 0111111111111111111111111111111111111100\n",
+    )?;
+    assert_eq!(rt; shared.parts.as_slice().len(), 1);
+    Ok(())
+}
+
+#[test]
+fn interfaces_out_of_range(rt: HostRuntime) -> Result<(), Fail> {
+    // The key is that of another host as well.
+    assert_eq!(rt;
+        refusal(
+            rt.alloc(),
+            b"domain d id 0111111111111111111111111111111111111100\nrouter r d open 0000000000000000000000000000000000000000000000000000000000000000\nhost a r plain seed W1 H5 0 0101010101010101010101010101010101010101010101010101010101010101\nhost b r plain seed W1 H5 256 0101010101010101010101010101010101010101010101010101010101010101\n"
+        ),
+        Some((4, 4))
+    );
+    // The router is unknown as well.
+    assert_eq!(rt;
+        refusal(
+            rt.alloc(),
+            b"domain d id 0111111111111111111111111111111111111100\nrouter r d open 0000000000000000000000000000000000000000000000000000000000000000\nhost a s plain seed W1 H5 256 0101010101010101010101010101010101010101010101010101010101010101\n"
+        ),
+        Some((3, 3))
+    );
+    // Sixteen digits, and a height that is none.
+    assert_eq!(rt;
+        refusal(
+            rt.alloc(),
+            b"domain d id 0111111111111111111111111111111111111100\nrouter r d open 0000000000000000000000000000000000000000000000000000000000000000\nhost a r plain seed W1 H5 1000000000000000 0101010101010101010101010101010101010101010101010101010101010101\n"
+        ),
+        Some((3, 1))
+    );
+    assert_eq!(rt;
+        refusal(
+            rt.alloc(),
+            b"domain d seed W4 H15 0101010101010101010101010101010101010101010101010101010101010101\n"
+        ),
+        Some((1, 1))
     );
     Ok(())
 }

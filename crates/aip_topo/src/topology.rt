@@ -1,5 +1,6 @@
 use crate::lists::{Domains, Parts, Routers};
 use aip_addr::{Address, Id, Name};
+use lms_core::Tree;
 
 /// The settings of a network. Times are in ticks, the others are numbers of entries.
 #[derive(Clone, Copy, Debug, PartialEq, Eq)]
@@ -23,14 +24,16 @@ pub struct Settings {
 }
 
 /// Where an id comes from.
-#[derive(Clone, Copy, Debug, PartialEq, Eq)]
+#[derive(Drop)]
 pub enum Key {
     /// The id was given, and its key isn't known.
     Given,
+    /// The key was made from a seed, and the id is that of its public key.
+    Made(Tree),
 }
 
 /// A domain.
-#[derive(Clone, Copy, Debug, PartialEq, Eq)]
+#[derive(Drop)]
 pub struct Domain {
     /// Its name.
     pub name: Name,
@@ -56,7 +59,7 @@ pub struct Router {
 }
 
 /// What takes a port of a router.
-#[derive(Clone, Copy, Debug, PartialEq, Eq)]
+#[derive(Drop)]
 pub enum Part {
     /// A host.
     Host(HostPart),
@@ -65,7 +68,7 @@ pub enum Part {
 }
 
 /// A host.
-#[derive(Clone, Copy, Debug, PartialEq, Eq)]
+#[derive(Drop)]
 pub struct HostPart {
     /// Its name.
     pub name: Name,
@@ -94,7 +97,7 @@ pub struct LinkPart {
 
 /// A network: its settings, its domains and routers, each named by its place from 0, and its hosts
 /// and links in the order in which they take the routers' ports.
-#[derive(Debug, Drop)]
+#[derive(Drop)]
 pub struct Topology {
     /// The settings.
     pub settings: Settings,

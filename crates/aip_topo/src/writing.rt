@@ -1,14 +1,15 @@
 ghost use Rattle.std.specs.Prelude.{◌≡◌, ◌++◌, ◌∷◌, [], IfOk, OnOk, flat_map};
 ghost use Rattle.hex.specs.Hex.{encode_lower};
-ghost use Rattle.aip_topo.specs.Canonical.{canonical_text, domain_name, domain_text, guard_word, hex_end, host_text, kind_word, link_text, part_text, router_name, router_text, set_text, settings_text, trust_word, value_text, values_of, words};
-ghost use Rattle.aip_topo.specs.Lines.{setting_word};
+ghost use Rattle.aip_topo.specs.Canonical.{ad_text, canonical_text, domain_name, domain_text, eid_text, guard_word, hex_end, host_text, kind_word, link_text, part_text, router_name, router_text, seed_words, set_text, settings_text, trust_word, value_text, values_of, words};
+ghost use Rattle.aip_topo.specs.Lines.{height_word, setting_word, width_word};
 ghost use Rattle.aip_topo.specs.Reading.{topology_of};
 ghost use Rattle.aip_topo.specs.Sound.{IsSound};
 
 use crate::lines::Setting;
-use crate::topology::{Domain, HostPart, LinkPart, Part, Router, Settings, Topology};
-use aip_addr::{Bytes, Memory};
+use crate::topology::{Domain, HostPart, Key, LinkPart, Part, Router, Settings, Topology};
+use aip_addr::{Bytes, Id, Memory};
 use aip_text::{push_hex, push_number, push_space, push_text, push_word};
+use lms_core::{Height, Tree, Width};
 use std::alloc::Global;
 
 /// The canonical text of the topology: the eight settings, the domains, the routers, then the hosts
@@ -121,8 +122,76 @@ fn write_domains(out: &mut Vec<u8>, domains: &[Domain]) -> Result<(), Memory>
 fn write_domain(out: &mut Vec<u8>, domain: &Domain) -> Result<(), Memory>
     ensures { OnOk result (out.new.items ≡ out.old.items ++ domain_text domain.now) }
 {
-    push_words(out, b"domain", domain.name.bytes(), b"id")?;
-    push_hex_end(out, &domain.ad.bytes)
+    push_text(out, b"domain")?;
+    push_word(out, domain.name.bytes())?;
+    push_space(out)?;
+    write_ad(out, &domain.key, &domain.ad)
+}
+
+fn width_word(width: Width) -> &'static [u8]
+    ensures { result.now ≡ width_word width }
+{
+    match width {
+        Width::W1 => b"W1",
+        Width::W2 => b"W2",
+        Width::W4 => b"W4",
+        Width::W8 => b"W8",
+    }
+}
+
+fn height_word(height: Height) -> &'static [u8]
+    ensures { result.now ≡ height_word height }
+{
+    match height {
+        Height::H5 => b"H5",
+        Height::H10 => b"H10",
+    }
+}
+
+// Appends `seed`, the width and the height.
+fn push_seed_words(out: &mut Vec<u8>, tree: &Tree) -> Result<(), Memory>
+    ensures { OnOk result (out.new.items ≡ out.old.items ++ seed_words tree.now) }
+{
+    push_words(
+        out,
+        b"seed",
+        width_word(tree.width()),
+        height_word(tree.height()),
+    )
+}
+
+// Appends how a domain's id is given, and the line feed.
+fn write_ad(out: &mut Vec<u8>, key: &Key, ad: &Id) -> Result<(), Memory>
+    ensures { OnOk result (out.new.items ≡ out.old.items ++ ad_text key.now ad.now) }
+{
+    match key {
+        Key::Given => {
+            push_text(out, b"id")?;
+            push_hex_end(out, &ad.bytes)
+        }
+        Key::Made(tree) => {
+            push_seed_words(out, tree)?;
+            push_hex_end(out, &tree.seed())
+        }
+    }
+}
+
+// Appends how a host's id is given, and the line feed.
+fn write_eid(out: &mut Vec<u8>, key: &Key, eid: &Id) -> Result<(), Memory>
+    ensures { OnOk result (out.new.items ≡ out.old.items ++ eid_text key.now eid.now) }
+{
+    match key {
+        Key::Given => {
+            push_text(out, b"id")?;
+            push_hex_end(out, &eid.bytes)
+        }
+        Key::Made(tree) => {
+            push_seed_words(out, tree)?;
+            push_space(out)?;
+            push_number(out, eid.bytes[19] as u64)?;
+            push_hex_end(out, &tree.seed())
+        }
+    }
 }
 
 fn domain_name(domains: &[Domain], place: u16) -> &[u8]
@@ -203,8 +272,8 @@ fn write_host(out: &mut Vec<u8>, routers: &[Router], host: &HostPart) -> Result<
     let router = router_name(routers, host.router);
     push_words(out, b"host", host.name.bytes(), router)?;
     push_word(out, guard_word(host.guarded))?;
-    push_word(out, b"id")?;
-    push_hex_end(out, &host.eid.bytes)
+    push_space(out)?;
+    write_eid(out, &host.key, &host.eid)
 }
 
 fn write_link(out: &mut Vec<u8>, routers: &[Router], link: &LinkPart) -> Result<(), Memory>
