@@ -9,7 +9,7 @@ use Rattle.leaf_lease.specs.declared.leases.LeaseEnd.{LeaseEnd}
 use Rattle.leaf_lease.specs.declared.leases.LeaseEnd.TheVariants.{Dry, Failed}
 use Rattle.leaf_lease.specs.Leases as lease
 use Rattle.lms_core.specs.Parameters.{levels_of}
-use Rattle.lms_core.specs.Tree.{Key, identifier_of}
+use Rattle.lms_core.specs.Tree.{identifier_of}
 use Rattle.host_signer.specs.declared.signer.Signer.{Signer}
 
 lists : (xs ys : List ℕ) → IsProp (xs ≡ ys)

@@ -1,5 +1,5 @@
 -- How opening a signer and signing end.
-use Rattle.std.specs.Prelude.{◌≡◌, ℕ, ◌+◌, Bool, true, false, List, [], ◌∷◌, Result, Ok, Err}
+use Rattle.std.specs.Prelude.{ℕ, ◌+◌, Bool, true, false, List, [], ◌∷◌, Result, Ok, Err}
 use Rattle.lease_disk.specs.Call.{Call, Write, Sync}
 use Rattle.lease_disk.specs.declared.disk.Disk.{Ghosts}
 use Rattle.leaf_lease.specs.declared.leases.Leases.{Leases}

@@ -5,7 +5,7 @@ ghost use Rattle.lease_disk.specs.Call.{Len, Read, Sync};
 ghost use Rattle.lease_disk.specs.Images.{overwritten, AtEachMoment};
 ghost use Rattle.leaf_lease.specs.Calls.{Ran};
 ghost use Rattle.leaf_lease.specs.Kept.{AfterWrite, KeepsGone, KeepsByte, NoLongerThan, CountsFaults};
-ghost use Rattle.leaf_lease.specs.LeaseFile.{IsGone, file_size};
+ghost use Rattle.leaf_lease.specs.LeaseFile.{IsGone, file_size, head_size};
 ghost use Rattle.leaf_lease.specs.Leases as lease;
 ghost use Rattle.lms_core.specs.Parameters.{levels_of, leaves_of, signature_len_of};
 ghost use Rattle.lms_core.specs.Tree.{identifier_of, public_key_of, signature_of};
@@ -66,7 +66,8 @@ impl<D: Disk> Signer<D> {
     ghost use Rattle.host_signer.specs.Ends.{SignerSays, signer_disk, signer_key, signer_failed, lease_calls, signed_disk, signed_key, sign_failed, is_memory, is_dry};
 
     /// Opens the lease file of the key of a tree, after making firm what was written before. The leaf that signs next is
-    /// one past the last that is gone, or 0.
+    /// one past the last that is gone, or 0. Where the file is not opened, the end tells why, as `leaf_lease::open` does,
+    /// and the disk and the tree come back.
     pub fn open(disk: D, tree: Tree) -> Result<Signer<D>, SignerEnd<D>>
         // What it says of the file, where the disk tells what it reads.
         ensures says { ForSome (D.now disk) (λ file. SignerSays tree file result) }
@@ -92,9 +93,13 @@ impl<D: Disk> Signer<D> {
         }
     }
 
-    /// Signs with the next leaf, once it is gone on the disk, and answers which leaf that was. The memory for the
-    /// signature is taken before, so that a leaf is spent only where the disk was asked.
-    pub fn sign(self, alloc: Global, message: &[u8]) -> Result<(Signer<D>, u32, Signature), SignEnd<D>>
+    /// Signs with the next leaf (RFC 8554, section 5.4), once it is gone on the disk, and answers which leaf that was. The
+    /// memory for the signature is taken before the leaf, so that want of memory spends none.
+    pub fn sign(
+        self,
+        alloc: Global,
+        message: &[u8],
+    ) -> Result<(Signer<D>, u32, Signature), SignEnd<D>>
         // The leaf that was next signs, and the signature is valid under the public key.
         ensures leaf { IfOk result (λ given. given.1 ≡ next_of self) }
         ensures signature { IfOk result (λ given. given.2 ≡ signature_of (key_of self) (next_of self) message.now) }
@@ -106,9 +111,9 @@ impl<D: Disk> Signer<D> {
         ensures gone { OnOk result ((image : List ℕ) → D.may_leave (signed_disk result) image → IsGone (next_of self) image) }
         ensures firm { OnOk result ((image : List ℕ) → D.may_leave (signed_disk result) image → D.now (signed_disk result) ≡ Some image) }
         ensures content { OnOk result (D.now (signed_disk result)
-            ≡ option_map (λ file. overwritten file (18 + next_of self) (1 ∷ [])) (D.now (disk_of self))) }
+            ≡ option_map (λ file. overwritten file (head_size + next_of self) (1 ∷ [])) (D.now (disk_of self))) }
 
-        // Where memory is wanting or no leaf is left, nothing changes. No leaf is left exactly where the next is past the last.
+        // Where memory is wanting or no leaf is left, nothing changes. No leaf is left where the next is past the last.
         ensures memory { IsTrue (is_memory result) → result ≡ Err (SignEnd.Memory self) }
         ensures dry { IsTrue (is_dry result) → (next_of self ≡ leaves_of (key_of self).height) × (result ≡ Err (SignEnd.Dry self)) }
         ensures none_left { next_of self ≡ leaves_of (key_of self).height → IsTrue (is_dry result || is_memory result) }
@@ -116,9 +121,9 @@ impl<D: Disk> Signer<D> {
 
         // In each image of each moment, whatever the answer: a leaf that was gone is gone, and all other bytes stay.
         ensures moments { AtEachMoment D.clock D.during (disk_of self) (signed_disk result)
-            (AfterWrite (D.may_leave (disk_of self)) (18 + next_of self) 1) }
+            (AfterWrite (D.may_leave (disk_of self)) (head_size + next_of self) 1) }
         ensures keeps_gone { KeepsGone (D.may_leave (disk_of self)) (D.during (signed_disk result) (D.clock (disk_of self))) }
-        ensures keeps_bytes { (at : ℕ) → at ≢ 18 + next_of self
+        ensures keeps_bytes { (at : ℕ) → at ≢ head_size + next_of self
             → KeepsByte at (D.may_leave (disk_of self)) (D.during (signed_disk result) (D.clock (disk_of self))) }
         ensures no_longer { NoLongerThan 0 (D.may_leave (disk_of self)) (D.during (signed_disk result) (D.clock (disk_of self))) }
         ensures clock { D.clock (signed_disk result) ≤ D.clock (disk_of self) + 2 }
@@ -138,7 +143,9 @@ impl<D: Disk> Signer<D> {
                 tree.sign(leaf, message, &mut bytes);
                 Ok((Signer { leases, tree }, leaf, Signature { bytes }))
             }
-            Err(LeaseEnd::Dry { leases }) => Err(SignEnd::Dry { signer: Signer { leases, tree } }),
+            Err(LeaseEnd::Dry { leases }) => Err(SignEnd::Dry {
+                signer: Signer { leases, tree },
+            }),
             Err(LeaseEnd::Failed { disk }) => Err(SignEnd::Failed { disk, tree }),
         }
     }
