@@ -179,34 +179,34 @@ fn a_file_that_is_not_the_keys_is_given_back(rt: HostRuntime) -> Result<(), Fail
     let alloc = rt.alloc();
     let other = tree_of(alloc, 0x46)?;
     let tree = tree_of(alloc, 0x45)?;
-    let disk = MemDisk::new(alloc, 50, Vec::new(alloc))?;
-    let (tree, disk) = match Signer::open(disk, tree) {
-        Err(
-            SignerEnd {
-                tree,
-                end: OpenEnd::Unformatted { disk, length, gate },
-            },
-        ) => {
-            assert_eq!(rt; length, 0);
-            assert_eq!(rt; gate, 0);
-            (tree, disk)
-        }
-        _ => panic!(rt; "an empty file is opened"),
+    let SignerEnd { tree, end } = match Signer::open(
+        MemDisk::new(alloc, 50, Vec::new(alloc))?,
+        tree,
+    ) {
+        Err(end) => end,
+        Ok(_) => panic!(rt; "an empty file is opened"),
     };
     assert!(rt; tree.seed() == [0x45; 32]);
-    match Signer::open(formatted(disk, &other), tree) {
-        Err(
-            SignerEnd {
-                tree,
-                end: OpenEnd::OtherKey { disk, id, height },
-            },
-        ) => {
-            assert!(rt; tree.seed() == [0x45; 32]);
+    let disk = match end {
+        OpenEnd::Unformatted { disk, length, gate } => {
+            assert_eq!(rt; length, 0);
+            assert_eq!(rt; gate, 0);
+            disk
+        }
+        _ => panic!(rt; "an empty file is not formatted"),
+    };
+    let SignerEnd { tree, end } = match Signer::open(formatted(disk, &other), tree) {
+        Err(end) => end,
+        Ok(_) => panic!(rt; "another key's file is opened"),
+    };
+    assert!(rt; tree.seed() == [0x45; 32]);
+    match end {
+        OpenEnd::OtherKey { disk, id, height } => {
             assert_eq!(rt; disk.bytes().len(), 50);
             assert!(rt; id == other.id());
             assert_eq!(rt; height, 5);
         }
-        _ => panic!(rt; "another key's file is opened"),
+        _ => panic!(rt; "a file of another key"),
     }
     Ok(())
 }
