@@ -6,22 +6,28 @@ use Rattle.leaf_lease.specs.declared.leases.LeafLease.{LeafLease}
 use Rattle.leaf_lease.specs.declared.leases.LeaseEnd.{LeaseEnd}
 use Rattle.leaf_lease.specs.declared.leases.LeaseEnd.TheVariants.{Dry, Failed}
 
+-- the leaf that a lease is for
 abbrev pub leased_leaf : LeafLease → ℕ
 leased_leaf lease = lease.leaf
 
+-- the identifier of the key that a lease is for
 abbrev pub leased_id : LeafLease → List ℕ
 leased_id lease = lease.id
 
 module _ {D : Type 0} {G : Ghosts D} where
+  -- the disk that the leaves are leased on
   abbrev pub disk_of : Leases D G → D
   disk_of leases = leases.disk
 
+  -- the identifier of the key
   abbrev pub id_of : Leases D G → List ℕ
   id_of leases = leases.id
 
+  -- the height of the key
   abbrev pub height_of : Leases D G → ℕ
   height_of leases = leases.height
 
+  -- the leaf that is handed out next
   abbrev pub next_of : Leases D G → ℕ
   next_of leases = leases.next
 

@@ -11,6 +11,7 @@ pub const HEAD: usize = 18;
 /// The size of the largest lease file, of a key of height 10.
 pub const LARGEST: usize = 1042;
 
+/// How many leaves a key of that height has.
 pub fn leaf_count(height: u8) -> u32
     requires { height ≤ 10 }
     ensures count { result ≡ 2 ^ height }
@@ -19,7 +20,7 @@ pub fn leaf_count(height: u8) -> u32
     1 << height
 }
 
-// The identifier that the file keeps.
+/// The identifier that the file keeps: its bytes 1 to 16.
 pub fn id_in(bytes: &[u8]) -> [u8; 16]
     requires { 18 ≤ length bytes.now }
     ensures id { result ≡ kept_id bytes.now }
@@ -29,7 +30,7 @@ pub fn id_in(bytes: &[u8]) -> [u8; 16]
     id
 }
 
-// One past the last byte that is not 0, or 0.
+/// One past the last byte that is not 0, or 0.
 pub fn first_free(leaves: &[u8]) -> usize
     ensures within { result ≤ length leaves.now }
     ensures free { (later : ℕ) → result ≤ later → later < length leaves.now → slice_index leaves.now later ≡ 0 }

@@ -12,11 +12,13 @@ use lease_disk::{Disk, Failed};
 /// The length of a file, and how many bytes of its front were read.
 #[derive(Clone, Copy)]
 pub struct Seen {
+    /// The length of the whole file in bytes.
     pub length: u64,
+    /// How many bytes were read.
     pub count: usize,
 }
 
-// Writes and makes firm.
+/// Writes from the byte `at` on, and makes firm what was written. The first call that fails ends it.
 pub fn write_firm<D: Disk>(disk: &mut D, at: u64, bytes: &[u8]) -> Result<(), Failed>
     requires { at + length bytes.now < 2 ^ 64 }
     ensures content { OnOk result (D.now disk.new ≡ option_map (λ old. overwritten old at bytes.now) (D.now disk.old)) }
@@ -30,7 +32,7 @@ pub fn write_firm<D: Disk>(disk: &mut D, at: u64, bytes: &[u8]) -> Result<(), Fa
     disk.sync()
 }
 
-// Reads the front of the file.
+/// Asks for the length of the file, and reads its front up to its end or that of `into`.
 pub fn inspect<D: Disk>(disk: &mut D, into: &mut [u8]) -> Result<Seen, Failed>
     ensures length { IfOk result (λ seen. ForSome (D.now disk.old) (λ file. seen.length ≡ length file)) }
     ensures within { IfOk result (λ seen. seen.count ≤ length into.old) }
@@ -45,7 +47,7 @@ pub fn inspect<D: Disk>(disk: &mut D, into: &mut [u8]) -> Result<Seen, Failed>
     Ok(Seen { length, count })
 }
 
-// Makes firm what was written before, and reads the front of the file.
+/// Makes firm what was written before, and reads the front of the file.
 pub fn inspect_firm<D: Disk>(disk: &mut D, into: &mut [u8]) -> Result<Seen, Failed>
     ensures length { IfOk result (λ seen. ForSome (D.now disk.old) (λ file. seen.length ≡ length file)) }
     ensures within { IfOk result (λ seen. seen.count ≤ length into.old) }
