@@ -1,9 +1,12 @@
-//! The program: it gives `aip` the words of its command line, the files of the folder that it runs in and standard
-//! output, and tells on standard error how the command ended, unless all was done.
+//! The program: it gives `aip` the words of its command line, the files of the folder that it runs in, standard output and
+//! a lease file, and tells on standard error how the command ended, unless all was done.
 #![tactic(auto)]
 
 use aip_io::{DirShelf, StdSink};
-use aip_top::{Status, aip};
+use aip_top::{LeaseFault, Status, aip};
+use lease_disk::FileDisk;
+use std::alloc::AllocError;
+use std::fs::Files;
 use std::process::ExitCode;
 use std::rt::Env;
 use std::{env, io};
@@ -15,6 +18,23 @@ fn words<R: Env + AllocGlobal>(rt: &R) -> io::Result<Vec<String>> {
         words.push(word)?;
     }
     Ok(words)
+}
+
+// The path of the lease file: it is named by the third word, or `none` where there is none.
+fn lease_path<R: AllocGlobal>(rt: &R, words: &[String]) -> Result<String, AllocError> {
+    match words.get(2) {
+        Some(word) => format!(in rt.alloc(); "{word}.lease"),
+        None => format!(in rt.alloc(); "none.lease"),
+    }
+}
+
+// The word for why a lease is refused.
+fn word_of(fault: LeaseFault) -> &'static str {
+    match fault {
+        LeaseFault::Unknown => "unknown",
+        LeaseFault::Keyless => "keyless",
+        LeaseFault::Already { .. } => "already",
+    }
 }
 
 // Tells on standard error how the command ended. Nothing is told where all was done.
@@ -32,18 +52,28 @@ fn tell(rt: &impl Eprint, status: Status) -> io::Result<()> {
             let number = fault.number();
             eprintln!(rt; "aip: schedule line {line} fault {number}")
         }
+        Status::DiskFault => eprintln!(rt; "aip: disk fault"),
+        Status::Lease(fault) => {
+            let word = word_of(fault);
+            eprintln!(rt; "aip: lease {word}")
+        }
         Status::Unbuilt => eprintln!(rt; "aip: unbuilt"),
         Status::Memory => eprintln!(rt; "aip: out of memory"),
     }
 }
 
+// Obeys the words. The disk that comes back isn't needed any more.
+fn obeyed<R: Env + AllocGlobal + Files + Print>(rt: &R, words: &[String]) -> Result<Status, AllocError> {
+    let mut shelf = DirShelf::new(rt);
+    let mut out = StdSink::new(rt);
+    let disk = FileDisk::new(rt, lease_path(rt, words)?);
+    let (status, _) = aip(rt.alloc(), words, &mut shelf, &mut out, disk);
+    Ok(status)
+}
+
 fn main(rt: HostRuntime) -> ExitCode {
     let status = match words(&rt) {
-        Ok(words) => {
-            let mut shelf = DirShelf::new(&rt);
-            let mut out = StdSink::new(&rt);
-            aip(rt.alloc(), &words, &mut shelf, &mut out)
-        }
+        Ok(words) => obeyed(&rt, &words).unwrap_or(Status::Memory),
         Err(error) if error.kind() == io::ErrorKind::OutOfMemory => Status::Memory,
         // Words that are no text spell no command.
         Err(_) => Status::Usage,

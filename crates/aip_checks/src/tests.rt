@@ -2,7 +2,9 @@ use aip_core::{Core, StepEnd};
 use aip_event::Input;
 use aip_io::{File, MemShelf, MemSink};
 use aip_rules::StepFault;
-use aip_top::{Status, aip};
+use aip_top::{LeaseFault, Status, aip};
+use aip_topo::TopoFault;
+use lease_disk::MemDisk;
 use std::alloc::{AllocError, Global};
 use std::test::Fail;
 
@@ -31,12 +33,17 @@ fn files(alloc: Global, schedule: &[u8]) -> Result<Vec<File>, AllocError> {
     Ok(files)
 }
 
-fn words(alloc: Global, third: &str) -> Result<Vec<String>, AllocError> {
+fn words(alloc: Global, line: &[&str]) -> Result<Vec<String>, AllocError> {
     let mut words = Vec::new(alloc);
-    words.push(String::from_str(alloc, "run")?)?;
-    words.push(String::from_str(alloc, "topo.txt")?)?;
-    words.push(String::from_str(alloc, third)?)?;
+    for word in line {
+        words.push(String::from_str(alloc, word)?)?;
+    }
     Ok(words)
+}
+
+// A disk of which the call of this number fails.
+fn disk(alloc: Global, call: u64) -> Result<MemDisk, AllocError> {
+    MemDisk::new(alloc, 100, one(alloc, call)?)
 }
 
 // A list of one number, or of none where it is 0.
@@ -57,7 +64,8 @@ fn outcome(
 ) -> Result<(Status, MemSink), AllocError> {
     let mut shelf = MemShelf::new(alloc, files(alloc, schedule)?, one(alloc, read)?, 64)?;
     let mut sink = MemSink::new(alloc, 4096, one(alloc, put)?, 100)?;
-    let status = aip(alloc, &words(alloc, "sched.txt")?, &mut shelf, &mut sink);
+    let words = words(alloc, &["run", "topo.txt", "sched.txt"])?;
+    let (status, _) = aip(alloc, &words, &mut shelf, &mut sink, disk(alloc, 0)?);
     Ok((status, sink))
 }
 
@@ -106,6 +114,18 @@ fn each_put_fails_in_turn(rt: HostRuntime) -> Result<(), Fail> {
 }
 
 #[test]
+fn the_second_put_of_five_bytes_fails(rt: HostRuntime) -> Result<(), Fail> {
+    let alloc = rt.alloc();
+    let mut shelf = MemShelf::new(alloc, files(alloc, SCHEDULE)?, Vec::new(alloc), 64)?;
+    let mut sink = MemSink::new(alloc, 4096, one(alloc, 2)?, 5)?;
+    let words = words(alloc, &["run", "topo.txt", "sched.txt"])?;
+    let (status, _) = aip(alloc, &words, &mut shelf, &mut sink, disk(alloc, 0)?);
+    assert_eq!(rt; status, Status::WriteFault);
+    assert_eq!(rt; sink.taken(), b"> sen".as_slice());
+    Ok(())
+}
+
+#[test]
 fn bad_lines_are_refused_by_their_first_fault(rt: HostRuntime) -> Result<(), Fail> {
     let table: [(&[u8], u32, StepFault); 12] = [
         (b"tick 1\r\n", 1, StepFault::Form),
@@ -133,13 +153,122 @@ fn absent_files_and_other_words(rt: HostRuntime) -> Result<(), Fail> {
     let alloc = rt.alloc();
     let mut shelf = MemShelf::new(alloc, files(alloc, SCHEDULE)?, Vec::new(alloc), 8)?;
     let mut sink = MemSink::new(alloc, 4096, Vec::new(alloc), 5)?;
-    let status = aip(alloc, &words(alloc, "other.txt")?, &mut shelf, &mut sink);
-    assert_eq!(rt; status, Status::ReadFault);
-    let mut two = words(alloc, "x")?;
-    let _ = two.pop();
-    let status = aip(alloc, &two, &mut shelf, &mut sink);
-    assert_eq!(rt; status, Status::Usage);
+    let lines: [(&[&str], Status); 10] = [
+        (&["run", "topo.txt", "other.txt"], Status::ReadFault),
+        (&["run", "other.txt", "sched.txt"], Status::ReadFault),
+        (&["address", "other.txt"], Status::ReadFault),
+        (&["lease", "other.txt", "d"], Status::ReadFault),
+        (&[], Status::Usage),
+        (&["run", "topo.txt"], Status::Usage),
+        (&["address", "topo.txt", "d"], Status::Usage),
+        (&["lease", "topo.txt"], Status::Usage),
+        // A domain's word is a name.
+        (&["lease", "topo.txt", "D"], Status::Usage),
+        (&["run", "topo.txt", "sched.txt", "more"], Status::Usage),
+    ];
+    for (line, expected) in lines {
+        let words = words(alloc, line)?;
+        let (status, after) = aip(alloc, &words, &mut shelf, &mut sink, disk(alloc, 0)?);
+        assert_eq!(rt; status, expected);
+        assert!(rt; after.bytes().is_empty());
+    }
     assert!(rt; sink.taken().is_empty());
+    Ok(())
+}
+
+// A domain with a key, and one without.
+const KEYED: &[u8] =
+    b"domain d seed W4 H5 3131313131313131313131313131313131313131313131313131313131313131\ndomain e id 0111111111111111111111111111111111111100\n";
+
+// The line of a lease for the first, and the file, as an independent implementation gives them.
+const LEASE_LINE: &[u8] = b"lease c4ea08216681de1a4900571dcf09e5f7 5\n";
+
+const LEASE_HEAD: [u8; 18] = [
+    0xa5, 0xc4, 0xea, 0x08, 0x21, 0x66, 0x81, 0xde, 0x1a, 0x49, 0x00, 0x57, 0x1d, 0xcf, 0x09, 0xe5,
+    0xf7, 5,
+];
+
+// A lease for the domain of this name, over a disk.
+fn leased(
+    alloc: Global,
+    topology: &[u8],
+    domain: &str,
+    put: u64,
+    disk: MemDisk,
+) -> Result<(Status, MemDisk, MemSink), AllocError> {
+    let mut files = Vec::new(alloc);
+    files.push(file(alloc, "topo.txt", topology)?)?;
+    let mut shelf = MemShelf::new(alloc, files, Vec::new(alloc), 64)?;
+    let mut sink = MemSink::new(alloc, 4096, one(alloc, put)?, 100)?;
+    let words = words(alloc, &["lease", "topo.txt", domain])?;
+    let (status, disk) = aip(alloc, &words, &mut shelf, &mut sink, disk);
+    Ok((status, disk, sink))
+}
+
+#[test]
+fn a_lease_formats_once(rt: HostRuntime) -> Result<(), Fail> {
+    let alloc = rt.alloc();
+    let (status, disk, sink) = leased(alloc, KEYED, "d", 0, disk(alloc, 0)?)?;
+    assert_eq!(rt; status, Status::Done);
+    assert_eq!(rt; sink.taken(), LEASE_LINE);
+    assert_eq!(rt; disk.bytes().len(), 50);
+    assert_eq!(rt; &disk.bytes()[..18], LEASE_HEAD.as_slice());
+    assert!(rt; disk.bytes()[18..].iter().all(|byte| *byte == 0));
+    let (status, disk, sink) = leased(alloc, KEYED, "d", 0, disk)?;
+    let mut id = [0; 16];
+    id.copy_from_slice(&LEASE_HEAD[1..17]);
+    assert_eq!(rt; status, Status::Lease(LeaseFault::Already { id, height: 5 }));
+    assert!(rt; sink.taken().is_empty());
+    assert_eq!(rt; disk.bytes().len(), 50);
+    Ok(())
+}
+
+#[test]
+fn a_lease_is_refused_before_the_disk_is_touched(rt: HostRuntime) -> Result<(), Fail> {
+    let alloc = rt.alloc();
+    let table: [(&[u8], &str, Status); 3] = [
+        (KEYED, "f", Status::Lease(LeaseFault::Unknown)),
+        (KEYED, "e", Status::Lease(LeaseFault::Keyless)),
+        (
+            b"domain d\n",
+            "d",
+            Status::Topology {
+                line: 1,
+                fault: TopoFault::Form,
+            },
+        ),
+    ];
+    for (topology, domain, expected) in table {
+        let (status, after, sink) = leased(alloc, topology, domain, 0, disk(alloc, 1)?)?;
+        assert_eq!(rt; status, expected);
+        assert!(rt; after.bytes().is_empty());
+        assert!(rt; sink.taken().is_empty());
+    }
+    Ok(())
+}
+
+#[test]
+fn each_call_of_the_disk_fails_in_turn(rt: HostRuntime) -> Result<(), Fail> {
+    let alloc = rt.alloc();
+    let mut faults = 0u64;
+    for call in 1..40u64 {
+        let (status, disk, sink) = leased(alloc, KEYED, "d", 0, disk(alloc, call)?)?;
+        if status == Status::Done {
+            assert_eq!(rt; sink.taken(), LEASE_LINE);
+            faults = call - 1;
+            break;
+        }
+        assert_eq!(rt; status, Status::DiskFault);
+        assert!(rt; sink.taken().is_empty());
+        // Only once all else was firm the gate was opened.
+        assert!(rt; disk.bytes().is_empty() || disk.bytes()[0] == 0 || call >= 7);
+    }
+    // Length and read, then three writes with a sync each.
+    assert_eq!(rt; faults, 8);
+    let (status, disk, sink) = leased(alloc, KEYED, "d", 1, disk(alloc, 0)?)?;
+    assert_eq!(rt; status, Status::WriteFault);
+    assert!(rt; sink.taken().is_empty());
+    assert_eq!(rt; &disk.bytes()[..18], LEASE_HEAD.as_slice());
     Ok(())
 }
 

@@ -1,3 +1,4 @@
 pub mod Whole
 pub mod Turns
 pub mod Runs
+pub mod Leases

@@ -11,14 +11,13 @@ use Rattle.aip_rules.specs.Texts.{Ending, Ran, ran, ran_over, end_of, output_of,
 use Rattle.aip_rules.specs.Texts as texts
 use Rattle.aip_top.specs.declared.status.Status.{Status}
 use Rattle.aip_top.specs.declared.status.Status.TheVariants as status
-use Rattle.aip_top.specs.declared.command.RunFiles.{RunFiles}
 use Rattle.aip_top.specs.declared.schedule.Ended.{Ended}
 use Rattle.aip_top.specs.declared.schedule.Ended.TheVariants as ended
 use Rattle.aip_top.specs.Written.{ending_of}
-use Rattle.aip_top.specs.Words.{Files}
-use Rattle.aip_top.specs.Named.{named}
-use Rattle.aip_top.specs.Statuses.{status_of, IsCutShort}
-use Rattle.aip_top.specs.Judged.{topology_end}
+use Rattle.aip_top.specs.Statuses.{status_of, is_disk_fault, IsCutShort, IsEarly, IsRefusal}
+use Rattle.aip_top.specs.Outcomes.{IsOrMemory, IsOrUnread, Writes, WritesOnDone}
+use Rattle.aip_top.specs.Addresses.{address_end, addresses_in, address_end_over, addresses_over}
+use Rattle.aip_top.specs.Judged.{IsJudged, refusal_of, topology_end}
 
 -- a run over a topology that is built, or else one that ends at once
 built_or_not : (b : Bool) (r : Ran) (end : Status) → cond b None (Some status.Unbuilt) ≡ Some end
@@ -31,7 +30,6 @@ decided_by : (read : Result Topology TopoEnd) (lines : List ℕ) (end : Status) 
     → (status_of (ran_over read lines).ending ≡ end) × (text_of_run (ran_over read lines) ≡ [])
 decided_by (Ok topo) lines end e = built_or_not (is_built_topology topo) (ran topo lines) end e
 decided_by (Err (topo_end.Line line f)) lines end e = (cc, refl)
-decided_by (Err topo_end.Unbuilt) lines end e = (cc, refl)
 decided_by (Err topo_end.Memory) lines end e = (cc, refl)
 
 -- the same by the text
@@ -62,6 +60,8 @@ cut_cases status.Usage h = absurd h
 cut_cases (status.Topology line f) h = absurd h
 cut_cases (status.Schedule line f) h = absurd h
 cut_cases status.Unbuilt h = absurd h
+cut_cases status.DiskFault h = absurd h
+cut_cases (status.Lease f) h = absurd h
 
 -- nothing at the end
 at_end : (xs : List ℕ) → xs ++ [] ≡ xs
@@ -86,62 +86,58 @@ no_end (Some told) P h = subst (λ o. IfSome o P) (sym h) tt
 abbrev pub IsWritten : Option (List ℕ) → Option (List ℕ) → List ℕ → Ending → Type 0
 IsWritten t s text e = IfSome t (λ told. IfSome s (λ lines. (text ≡ output_of told lines) × (e ≡ end_of told lines)))
 
--- after a write: how it ended
-pub wrote_end : (t s : Option (List ℕ)) (text : List ℕ) (e : Ending) (r : Status) → IsWritten t s text e → (r ≡ status.WriteFault) ⊎ (r ≡ status_of e)
-    → IfSome t (λ told. IfSome s (λ lines. IsCutShort r ⊎ (r ≡ status_of (end_of told lines))))
-wrote_end None s text e r h p = tt
-wrote_end (Some told) None text e r h p = tt
-wrote_end (Some told) (Some lines) text e r h (inl p) = inl (subst IsCutShort (sym p) tt)
-wrote_end (Some told) (Some lines) text e r h (inr p) = inr (p ∙ ap status_of h.1)
-
--- after a write: what was taken
-pub wrote_taken : (t s : Option (List ℕ)) (text : List ℕ) (e : Ending) (r : Status) (old new : Option (List ℕ)) → IsWritten t s text e → (r ≡ status_of e → new ≡ and_then old text)
-    → IfSome t (λ told. IfSome s (λ lines. r ≡ status_of (end_of told lines) → new ≡ and_then old (output_of told lines)))
-wrote_taken None s text e r old new h p = tt
-wrote_taken (Some told) None text e r old new h p = tt
-wrote_taken (Some told) (Some lines) text e r old new h p = λ q. p (q ∙ sym (ap status_of h.1)) ∙ ap (and_then old) h.0
-
--- after a write: a first part was taken
-pub wrote_prefix : (t s : Option (List ℕ)) (text : List ℕ) (e : Ending) (old new : Option (List ℕ)) → IsWritten t s text e → TookPart old new text
-    → IfSome t (λ told. IfSome s (λ lines. TookPart old new (output_of told lines)))
-wrote_prefix None s text e old new h p = tt
-wrote_prefix (Some told) None text e old new h p = tt
-wrote_prefix (Some told) (Some lines) text e old new h p = subst (TookPart old new) h.0 p
+-- after a write: how it ended, and what was taken
+pub wrote : (t s : Option (List ℕ)) (text : List ℕ) (e : Ending) (r : Status) (old new : Option (List ℕ)) → IsWritten t s text e → (r ≡ status.WriteFault) ⊎ (r ≡ status_of e)
+    → (r ≡ status_of e → new ≡ and_then old text) → TookPart old new text
+    → IfSome t (λ told. IfSome s (λ lines. Writes (status_of (end_of told lines)) (output_of told lines) r old new))
+wrote None s text e r old new h p q part = tt
+wrote (Some told) None text e r old new h p q part = tt
+wrote (Some told) (Some lines) text e r old new h p q part = record {
+  answer = end p;
+  whole = λ is. q (is ∙ sym (ap status_of h.1)) ∙ ap (and_then old) h.0;
+  part = subst (TookPart old new) h.0 part;
+}
+  where
+    end : (r ≡ status.WriteFault) ⊎ (r ≡ status_of e) → IsCutShort r ⊎ (r ≡ status_of (end_of told lines))
+    end (inl is) = inl (subst IsCutShort (sym is) tt)
+    end (inr is) = inr (is ∙ ap status_of h.1)
 
 -- after a write no read failed
 pub wrote_read : (e : Ending) (r : Status) (P : Type 0) → (r ≡ status.WriteFault) ⊎ (r ≡ status_of e) → r ≡ status.ReadFault → P
 wrote_read e r P (inl p) q = absurd (cc)
 wrote_read e r P (inr p) q = absurd (not_cut_short e (subst IsCutShort (sym q ∙ p) tt))
 
--- after a write the words were a command
-pub wrote_named : (e : Ending) (r : Status) → (r ≡ status.WriteFault) ⊎ (r ≡ status_of e) → r ≢ status.Usage
-wrote_named e r (inl p) q = cc
-wrote_named e r (inr p) q = not_usage e (sym p ∙ q)
+-- how a run ends is no disk fault
+no_disk_fault : (e : Ending) → is_disk_fault (status_of e) ≡ false
+no_disk_fault texts.Done = refl
+no_disk_fault (texts.Topology_refused line f) = refl
+no_disk_fault (texts.Schedule_refused line f) = refl
+no_disk_fault texts.Unbuilt = refl
+
+-- after a write the words were a command, and no disk failed
+pub wrote_named : (e : Ending) (r : Status) → (r ≡ status.WriteFault) ⊎ (r ≡ status_of e) → (r ≢ status.Usage) × (is_disk_fault r ≡ false)
+wrote_named e r (inl p) = (λ q. cc, ap is_disk_fault p)
+wrote_named e r (inr p) = (λ q. not_usage e (sym p ∙ q), ap is_disk_fault p ∙ no_disk_fault e)
 
 -- the status before anything is written is cut short, or the one by which the topology text ends every run
 abbrev pub IsEnded : Option (List ℕ) → Status → Type 0
 IsEnded t r = IfSome t (λ told. IsCutShort r ⊎ (topology_end (topology_of told) ≡ Some r))
 
--- before a write: how it ended
-pub ended_end : (t s : Option (List ℕ)) (r : Status) → IsEnded t r → IfSome t (λ told. IfSome s (λ lines. IsCutShort r ⊎ (r ≡ status_of (end_of told lines))))
-ended_end None s r h = tt
-ended_end (Some told) None r h = tt
-ended_end (Some told) (Some lines) r (inl h) = inl h
-ended_end (Some told) (Some lines) r (inr h) = inr (sym (decided told lines r h).0)
-
--- before a write: what was taken
-pub ended_taken : (t s : Option (List ℕ)) (r : Status) (old : Option (List ℕ)) → IsEnded t r
-    → IfSome t (λ told. IfSome s (λ lines. r ≡ status_of (end_of told lines) → old ≡ and_then old (output_of told lines)))
-ended_taken None s r old h = tt
-ended_taken (Some told) None r old h = tt
-ended_taken (Some told) (Some lines) r old (inl h) = λ q. absurd (not_cut_short (end_of told lines) (subst IsCutShort q h))
-ended_taken (Some told) (Some lines) r old (inr h) = λ q. sym (ap (and_then old) (decided told lines r h).1 ∙ and_nothing old)
-
--- before a write: nothing was taken
-pub ended_prefix : (t s : Option (List ℕ)) (old : Option (List ℕ)) → IfSome t (λ told. IfSome s (λ lines. TookPart old old (output_of told lines)))
-ended_prefix None s old = tt
-ended_prefix (Some told) None old = tt
-ended_prefix (Some told) (Some lines) old = took_nothing old (output_of told lines)
+-- before a write: how it ended, and nothing was taken
+pub ended_at_once : (t s : Option (List ℕ)) (r : Status) (old : Option (List ℕ)) → IsEnded t r
+    → IfSome t (λ told. IfSome s (λ lines. Writes (status_of (end_of told lines)) (output_of told lines) r old old))
+ended_at_once None s r old h = tt
+ended_at_once (Some told) None r old h = tt
+ended_at_once (Some told) (Some lines) r old (inl h) = record {
+  answer = inl h;
+  whole = λ is. absurd (not_cut_short (end_of told lines) (subst IsCutShort is h));
+  part = took_nothing old (output_of told lines);
+}
+ended_at_once (Some told) (Some lines) r old (inr h) = record {
+  answer = inr (sym (decided told lines r h).0);
+  whole = λ is. sym (ap (and_then old) (decided told lines r h).1 ∙ and_nothing old);
+  part = took_nothing old (output_of told lines);
+}
 
 -- before a write: the sink is as it was
 pub ended_topology : {K : Type 0} (t : Option (List ℕ)) (k : K) (P : Status → Type 0) → IfSome t (λ told. IfSome (topology_end (topology_of told)) P)
@@ -153,64 +149,37 @@ ended_topology (Some told) k P h = both (topology_end (topology_of told)) h
     both None h = tt
     both (Some expected) h = (refl, h)
 
--- where no fault rose, the answer is the one that the rules give, or want of memory
-pub completes : (t s : Option (List ℕ)) (r : Status) (A B C : Type 0) → IfSome t (λ told. IfSome s (λ lines. IsCutShort r ⊎ (r ≡ status_of (end_of told lines))))
-    → (r ≡ status.ReadFault → A ⊎ B) → (r ≡ status.WriteFault → C)
-    → IfSome t (λ told. IfSome s (λ lines. (A → ⊥) → (B → ⊥) → (C → ⊥) → (r ≡ status_of (end_of told lines)) ⊎ (r ≡ status.Memory)))
-completes None s r A B C h read write = tt
-completes (Some told) None r A B C h read write = tt
-completes (Some told) (Some lines) r A B C (inr h) read write = λ a b c. inl h
-completes (Some told) (Some lines) r A B C (inl h) read write = λ a b c. fault (cut_cases r h) a b c
-  where
-    either : A ⊎ B → (A → ⊥) → (B → ⊥) → ⊥
-    either (inl x) a b = a x
-    either (inr y) a b = b y
 
-    fault : (r ≡ status.ReadFault) ⊎ ((r ≡ status.WriteFault) ⊎ (r ≡ status.Memory)) → (A → ⊥) → (B → ⊥) → (C → ⊥) → (r ≡ status_of (end_of told lines)) ⊎ (r ≡ status.Memory)
-    fault (inl p) a b c = absurd (either (read p) a b)
-    fault (inr (inl p)) a b c = absurd (c (write p))
-    fault (inr (inr p)) a b c = inr p
+-- ## Refused topologies
 
--- what holds of the files that the words name
-pub of_files : (q : Option Files) (files : Files) (P : Files → Type 0) → q ≡ Some files → P files → IfSome q P
-of_files q files P e h = subst (λ o. IfSome o P) (sym e) h
+-- a status that refuses isn't cut short
+not_both_ways : (r : Status) → IsRefusal r → IsCutShort r → ⊥
+not_both_ways (status.Topology line f) refuses cut = cut
+not_both_ways (status.Lease f) refuses cut = cut
+not_both_ways status.Done refuses cut = cut
+not_both_ways status.Usage refuses cut = cut
+not_both_ways status.ReadFault refuses cut = refuses
+not_both_ways status.WriteFault refuses cut = refuses
+not_both_ways (status.Schedule line f) refuses cut = cut
+not_both_ways status.DiskFault refuses cut = cut
+not_both_ways status.Memory refuses cut = refuses
+not_both_ways status.Unbuilt refuses cut = cut
 
--- the words name these files
-pub found_files : (found : Option RunFiles) (q : Option Files) (files : RunFiles) → option_map named found ≡ q → found ≡ Some files → q ≡ Some (named files)
-found_files found q files e is = sym e ∙ ap (option_map named) is
-
--- the words name no files
-pub no_files : (found : Option RunFiles) (q : Option Files) → option_map named found ≡ q → found ≡ None → q ≡ None
-no_files found q e is = sym e ∙ ap (option_map named) is
-
--- what is asked of files that aren't there
-pub of_none : (q : Option Files) (P : Files → Type 0) → q ≡ None → IfSome q P
-of_none q P e = subst (λ o. IfSome o P) (sym e) tt
-
--- there are files, or there are none
-pub not_both : (q : Option Files) (files : Files) → q ≡ Some files → q ≡ None → ⊥
-not_both q files e h = cc
-
--- how a schedule ends is no refused topology
-not_topology : (e : Ended) (line : ℕ) (fault : TopoFault) → status_of (ending_of e) ≡ status.Topology line fault → ⊥
-not_topology ended.Done line fault h = cc
-not_topology (ended.Refused n f) line fault h = cc
-not_topology ended.Unbuilt line fault h = cc
+-- how a schedule ends refuses no topology
+refuses_none : (e : Ended) → IsRefusal (status_of (ending_of e)) → ⊥
+refuses_none ended.Done h = h
+refuses_none (ended.Refused n f) h = h
+refuses_none ended.Unbuilt h = h
 
 -- after a write no topology was refused
-wrote_other : (e : Ended) (r : Status) (line : ℕ) (fault : TopoFault) → (r ≡ status.WriteFault) ⊎ (r ≡ status_of (ending_of e)) → r ≡ status.Topology line fault → ⊥
-wrote_other e r line fault (inl p) q = cc
-wrote_other e r line fault (inr p) q = not_topology e line fault (sym p ∙ q)
-
--- after a write: where the answer is a refused topology, the topology is refused so
 pub wrote_judged : (t : Option (List ℕ)) (e : Ended) (r : Status) → (r ≡ status.WriteFault) ⊎ (r ≡ status_of (ending_of e))
-    → IfSome t (λ told. (line : ℕ) (fault : TopoFault) → r ≡ status.Topology line fault → topology_end (topology_of told) ≡ Some (status.Topology line fault))
+    → IfSome t (λ told. IsRefusal r → topology_end (topology_of told) ≡ Some r)
 wrote_judged None e r p = tt
-wrote_judged (Some told) e r p = λ line fault q. absurd (wrote_other e r line fault p q)
+wrote_judged (Some told) e r (inl p) = λ refuses. absurd (subst IsRefusal p refuses)
+wrote_judged (Some told) e r (inr p) = λ refuses. absurd (refuses_none e (subst IsRefusal p refuses))
 
--- before a write: the same
-pub ended_judged : (t : Option (List ℕ)) (r : Status) → IsEnded t r
-    → IfSome t (λ told. (line : ℕ) (fault : TopoFault) → r ≡ status.Topology line fault → topology_end (topology_of told) ≡ Some (status.Topology line fault))
+-- before a write: the topology is refused so
+pub ended_judged : (t : Option (List ℕ)) (r : Status) → IsEnded t r → IfSome t (λ told. IsRefusal r → topology_end (topology_of told) ≡ Some r)
 ended_judged None r h = tt
-ended_judged (Some told) r (inl h) = λ line fault q. absurd (subst IsCutShort q h)
-ended_judged (Some told) r (inr h) = λ line fault q. h ∙ ap Some q
+ended_judged (Some told) r (inl h) = λ refuses. absurd (not_both_ways r refuses h)
+ended_judged (Some told) r (inr h) = λ refuses. h

@@ -1,5 +1,9 @@
 pub mod Statuses
+pub mod Outcomes
 pub mod Words
 pub mod Written
 pub mod Named
+pub mod Leasing
 pub mod Judged
+pub mod Addresses
+pub mod Wanted

@@ -1,8 +1,21 @@
--- The files that a run names, seen by their names' bytes.
+-- What a command names, seen by the bytes of its words.
 use Rattle.std.specs.Prelude.{string_bytes}
-use Rattle.aip_top.specs.Words.{Files}
-use Rattle.aip_top.specs.declared.command.RunFiles.{RunFiles}
+use Rattle.aip_top.specs.Words.{Files, Leased, Command, Run, Address, Lease}
+use Rattle.aip_top.specs.declared.command.RunWords.{RunWords}
+use Rattle.aip_top.specs.declared.command.LeaseWords.{LeaseWords}
+use Rattle.aip_top.specs.declared.command.Command as words
+use Rattle.aip_top.specs.declared.command.Command.TheVariants as command
 
--- the names of the two files
-abbrev pub named : RunFiles → Files
-named files = record { topology = string_bytes files.topology.now; schedule = string_bytes files.schedule.now }
+-- the two files that a run names
+abbrev pub files_of : RunWords → Files
+files_of words = record { topology = string_bytes words.topology.now; schedule = string_bytes words.schedule.now }
+
+-- the file and the domain that a lease names
+abbrev pub leased_of : LeaseWords → Leased
+leased_of words = record { topology = string_bytes words.topology.now; domain = words.domain }
+
+-- the command that was read
+abbrev pub named : words.Command → Command
+named (command.Run words) = Run (files_of words)
+named (command.Address topology) = Address (string_bytes topology.now)
+named (command.Lease words) = Lease (leased_of words)

@@ -1,17 +1,83 @@
 -- The words of a command line.
-use Rattle.std.specs.Prelude.{ℕ, List, [], ◌∷◌, codes, Option, Some, None, if◌then◌else◌}
+use Rattle.std.specs.Prelude.{ℕ, ◌⊎◌, ⊤, List, [], ◌∷◌, codes, Option, Some, None, if◌then◌else◌}
 use Rattle.std.specs.Str.{bytes_eq}
+use Rattle.aip_addr.specs.Naming.{is_name}
 
 -- the two files that a run names
 pub record Files : Type 0 where
   pub topology : List ℕ
   pub schedule : List ℕ
 
--- the files of a run, where the words are `run` and two more
-abbrev pub run_files : List (List ℕ) → Option Files
-run_files [] = None
-run_files (command ∷ []) = None
-run_files (command ∷ topology ∷ []) = None
-run_files (command ∷ topology ∷ schedule ∷ []) =
-    if bytes_eq command (codes "run") then Some (record { topology = topology; schedule = schedule }) else None
-run_files (command ∷ topology ∷ schedule ∷ more ∷ words) = None
+-- the file and the domain that a lease names
+pub record Leased : Type 0 where
+  pub topology : List ℕ
+  pub domain : List ℕ
+
+-- a command: `run TOPO SCHED`, `address TOPO` or `lease TOPO DOMAIN`
+pub data Command : Type 0 where
+  Run : Files → Command
+  Address : (topology : List ℕ) → Command
+  Lease : Leased → Command
+
+-- the command of two words
+abbrev pub command_of_two : List ℕ → List ℕ → Option Command
+command_of_two word topology = if bytes_eq word (codes "address") then Some (Address topology) else None
+
+-- a lease of a domain, where the word is a name
+abbrev pub lease_of : List ℕ → List ℕ → Option Command
+lease_of topology domain = if is_name domain then Some (Lease (record { topology = topology; domain = domain })) else None
+
+-- the command of three words
+abbrev pub command_of_three : List ℕ → List ℕ → List ℕ → Option Command
+command_of_three word topology third =
+    if bytes_eq word (codes "run") then Some (Run (record { topology = topology; schedule = third }))
+    else if bytes_eq word (codes "lease") then lease_of topology third
+    else None
+
+-- the command that the words spell, if they spell one
+abbrev pub command_of : List (List ℕ) → Option Command
+command_of [] = None
+command_of (word ∷ []) = None
+command_of (word ∷ topology ∷ []) = command_of_two word topology
+command_of (word ∷ topology ∷ third ∷ []) = command_of_three word topology third
+command_of (word ∷ topology ∷ third ∷ more ∷ words) = None
+
+-- the topology file that a command names
+abbrev pub topology_in : Command → List ℕ
+topology_in (Run files) = files.topology
+topology_in (Address topology) = topology
+topology_in (Lease leased) = leased.topology
+
+-- what holds of the two files, where the command is a run
+abbrev pub OfRun : Option Command → (Files → Type 0) → Type 0
+OfRun None holds = ⊤
+OfRun (Some (Run files)) holds = holds files
+OfRun (Some (Address topology)) holds = ⊤
+OfRun (Some (Lease leased)) holds = ⊤
+
+-- what holds of the topology file, where the addresses are asked for
+abbrev pub OfAddress : Option Command → (List ℕ → Type 0) → Type 0
+OfAddress None holds = ⊤
+OfAddress (Some (Run files)) holds = ⊤
+OfAddress (Some (Address topology)) holds = holds topology
+OfAddress (Some (Lease leased)) holds = ⊤
+
+-- what holds of the file and the domain, where the command is a lease
+abbrev pub OfLease : Option Command → (Leased → Type 0) → Type 0
+OfLease None holds = ⊤
+OfLease (Some (Run files)) holds = ⊤
+OfLease (Some (Address topology)) holds = ⊤
+OfLease (Some (Lease leased)) holds = holds leased
+
+-- the command is a lease
+abbrev pub IsLease : Option Command → Type 0
+IsLease None = ⊥
+IsLease (Some (Run files)) = ⊥
+IsLease (Some (Address topology)) = ⊥
+IsLease (Some (Lease leased)) = ⊤
+
+-- it holds of one of the files that the command names
+abbrev pub OfAFile : (List ℕ → Type 0) → Command → Type 0
+OfAFile holds (Run files) = holds files.topology ⊎ holds files.schedule
+OfAFile holds (Address topology) = holds topology
+OfAFile holds (Lease leased) = holds leased.topology

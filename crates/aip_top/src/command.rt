@@ -1,26 +1,84 @@
 ghost use Rattle.std.specs.Prelude.{◌≡◌, map, option_map, string_bytes};
-ghost use Rattle.aip_top.specs.Words.{run_files};
+ghost use Rattle.aip_top.specs.Words.{command_of, command_of_three, command_of_two, lease_of};
 ghost use Rattle.aip_top.specs.Named.{named};
+
+use aip_addr::Name;
 
 /// The two files that a run names.
 #[derive(Clone, Copy)]
-pub struct RunFiles<'a> {
+pub struct RunWords<'a> {
+    /// The file of the topology.
     pub topology: &'a String,
+    /// The file of the schedule.
     pub schedule: &'a String,
 }
 
-/// The files of a run, where the words are `run` and two more.
-pub fn run_files(words: &[String]) -> Option<RunFiles<'_>>
-    ensures { option_map named result ≡ run_files (map string_bytes words.now) }
+/// The file and the domain that a lease names.
+#[derive(Clone, Copy)]
+pub struct LeaseWords<'a> {
+    /// The file of the topology.
+    pub topology: &'a String,
+    /// The domain's name.
+    pub domain: Name,
+}
+
+/// A command.
+#[derive(Clone, Copy)]
+pub enum Command<'a> {
+    /// `run TOPO SCHED`
+    Run(RunWords<'a>),
+    /// `address TOPO`
+    Address(&'a String),
+    /// `lease TOPO DOMAIN`
+    Lease(LeaseWords<'a>),
+}
+
+fn command_of_two<'a>(word: &'a String, topology: &'a String) -> Option<Command<'a>>
+    ensures { option_map named result ≡ command_of_two (string_bytes word.now) (string_bytes topology.now) }
+{
+    if word.as_str() == "address" {
+        Some(Command::Address(topology))
+    } else {
+        None
+    }
+}
+
+fn lease_of<'a>(topology: &'a String, domain: &'a String) -> Option<Command<'a>>
+    ensures { option_map named result ≡ lease_of (string_bytes topology.now) (string_bytes domain.now) }
+{
+    match Name::read(domain.as_bytes()) {
+        Some(domain) => Some(Command::Lease(LeaseWords { topology, domain })),
+        None => None,
+    }
+}
+
+fn command_of_three<'a>(
+    word: &'a String,
+    topology: &'a String,
+    third: &'a String,
+) -> Option<Command<'a>>
+    ensures { option_map named result
+        ≡ command_of_three (string_bytes word.now) (string_bytes topology.now) (string_bytes third.now) }
+{
+    if word.as_str() == "run" {
+        Some(Command::Run(RunWords {
+            topology,
+            schedule: third,
+        }))
+    } else if word.as_str() == "lease" {
+        lease_of(topology, third)
+    } else {
+        None
+    }
+}
+
+/// The command that the words spell, if they spell one.
+pub fn command_of(words: &[String]) -> Option<Command<'_>>
+    ensures { option_map named result ≡ command_of (map string_bytes words.now) }
 {
     match words {
-        [command, topology, schedule] => {
-            if command.as_str() == "run" {
-                Some(RunFiles { topology, schedule })
-            } else {
-                None
-            }
-        }
+        [word, topology] => command_of_two(word, topology),
+        [word, topology, third] => command_of_three(word, topology, third),
         _ => None,
     }
 }

@@ -4,11 +4,13 @@
 //! does are clauses of that one call.
 #![tactic(auto)]
 
+mod addresses;
 mod command;
+mod leasing;
 mod schedule;
 mod status;
 mod top;
 
 pub use aip_addr::Memory;
-pub use status::Status;
+pub use status::{LeaseFault, Status};
 pub use top::aip;

@@ -4,6 +4,22 @@ ghost use Rattle.aip_top.specs.Statuses.{exit_code_of};
 use aip_rules::StepFault;
 use aip_topo::TopoFault;
 
+/// Why a lease is refused.
+#[derive(Clone, Copy, Debug, PartialEq, Eq)]
+pub enum LeaseFault {
+    /// The topology has no domain of that name.
+    Unknown,
+    /// The domain was given by its id, so its key isn't known.
+    Keyless,
+    /// The file is formatted already, for the key with this identifier and height.
+    Already {
+        /// The identifier I of the key, 16 bytes.
+        id: [u8; 16],
+        /// The height of its tree.
+        height: u8,
+    },
+}
+
 /// How a command ends.
 #[derive(Clone, Copy, Debug, PartialEq, Eq)]
 pub enum Status {
@@ -32,8 +48,12 @@ pub enum Status {
     /// The topology, or an input of the schedule, is of a kind that isn't built yet. What was taken is the text of the
     /// inputs before it.
     Unbuilt,
+    /// The disk failed.
+    DiskFault,
     /// There was no memory.
     Memory,
+    /// The lease is refused. Nothing was written, and the file is as it was.
+    Lease(LeaseFault),
 }
 
 impl Status {
@@ -48,7 +68,9 @@ impl Status {
             Status::WriteFault => 4,
             Status::Topology { .. } => 5,
             Status::Schedule { .. } => 6,
+            Status::DiskFault => 8,
             Status::Memory => 9,
+            Status::Lease(_) => 10,
             Status::Unbuilt => 12,
         }
     }
