@@ -63,7 +63,10 @@ fn tell(rt: &impl Eprint, status: Status) -> io::Result<()> {
 }
 
 // Obeys the words. The disk that comes back isn't needed any more.
-fn obeyed<R: Env + AllocGlobal + Files + Print>(rt: &R, words: &[String]) -> Result<Status, AllocError> {
+fn obeyed<R: Env + AllocGlobal + Files + Print>(
+    rt: &R,
+    words: &[String],
+) -> Result<Status, AllocError> {
     let mut shelf = DirShelf::new(rt);
     let mut out = StdSink::new(rt);
     let disk = FileDisk::new(rt, lease_path(rt, words)?);

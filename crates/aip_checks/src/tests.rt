@@ -217,7 +217,10 @@ fn a_lease_formats_once(rt: HostRuntime) -> Result<(), Fail> {
     let (status, disk, sink) = leased(alloc, KEYED, "d", 0, disk)?;
     let mut id = [0; 16];
     id.copy_from_slice(&LEASE_HEAD[1..17]);
-    assert_eq!(rt; status, Status::Lease(LeaseFault::Already { id, height: 5 }));
+    assert_eq!(rt;
+        status,
+        Status::Lease(LeaseFault::Already { id, height: 5 })
+    );
     assert!(rt; sink.taken().is_empty());
     assert_eq!(rt; disk.bytes().len(), 50);
     Ok(())

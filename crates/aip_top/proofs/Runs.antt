@@ -149,7 +149,6 @@ ended_topology (Some told) k P h = both (topology_end (topology_of told)) h
     both None h = tt
     both (Some expected) h = (refl, h)
 
-
 -- ## Refused topologies
 
 -- a status that refuses isn't cut short

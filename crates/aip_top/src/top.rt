@@ -174,7 +174,6 @@ fn put_written<K: Sink>(out: &mut K, written: Written) -> Status
 }
 
 // A run of two files.
-#[tactic(auto)]
 fn run<S: Shelf, K: Sink>(
     alloc: Global,
     shelf: &mut S,
@@ -252,13 +251,7 @@ fn put_text<K: Sink>(out: &mut K, text: &[u8]) -> Status
 }
 
 // Writes the addresses of a topology.
-#[tactic(auto)]
-fn address<S: Shelf, K: Sink>(
-    alloc: Global,
-    shelf: &mut S,
-    topology: &str,
-    out: &mut K,
-) -> Status
+fn address<S: Shelf, K: Sink>(alloc: Global, shelf: &mut S, topology: &str, out: &mut K) -> Status
     ensures topology { IfSome (S.text shelf.old topology.now) (λ told. IfSome (refusal_of (topology_of told)) (λ expected.
         (out.new ≡ out.old) × IsOrUnread expected (Rose (S.faults shelf.old topology.now) (S.faults shelf.new topology.now)) result)) }
     ensures judged { IfSome (S.text shelf.old topology.now) (λ told. IsRefusal result → refusal_of (topology_of told) ≡ Some result) }
@@ -297,7 +290,6 @@ fn prepare_lease<S: Shelf>(
 }
 
 // Formats the disk for a domain's key.
-#[tactic(auto)]
 fn lease<S: Shelf, K: Sink, D: Disk>(
     alloc: Global,
     shelf: &mut S,
@@ -335,7 +327,6 @@ fn lease<S: Shelf, K: Sink, D: Disk>(
 }
 
 // Obeys a command.
-#[tactic(auto)]
 fn obey<S: Shelf, K: Sink, D: Disk>(
     alloc: Global,
     command: &Command<'_>,
@@ -419,7 +410,6 @@ fn obey<S: Shelf, K: Sink, D: Disk>(
 /// `run TOPO SCHED` writes the trace of the schedule over the topology, and a refusal line where a line of the schedule is
 /// refused. `address TOPO` writes the addresses of the domains, routers and hosts. `lease TOPO DOMAIN` formats the disk as
 /// the lease file of the domain's key, unless it is a lease file already, and writes the key's identifier and height.
-#[tactic(auto)]
 pub fn aip<S: Shelf, K: Sink, D: Disk>(
     alloc: Global,
     words: &[String],
