@@ -1,5 +1,6 @@
 // Signing with a leaf that was leased.
-ghost use Rattle.std.specs.Prelude.{◌≡◌, ◌≢◌, ◌+◌, ◌^◌, ◌≤◌, [], ◌∷◌, ℕ, List, Some, Err, not, ◌||◌, length, option_map, IfOk, OnOk, OnErr, if◌then◌else◌, IsTrue};
+ghost use Rattle.std.specs.Prelude.{◌≡◌, ◌≢◌, ◌+◌, ◌≤◌, ℕ, List, [], ◌∷◌, length, Some, option_map};
+ghost use Rattle.std.specs.Prelude.{Err, IfOk, OnOk, OnErr, IsTrue, not, ◌||◌, if◌then◌else◌};
 ghost use Rattle.std.specs.Option.{ForSome};
 ghost use Rattle.lease_disk.specs.Call.{Len, Read, Sync};
 ghost use Rattle.lease_disk.specs.Images.{overwritten, AtEachMoment};
@@ -56,14 +57,16 @@ fn height_of(tree: &Tree) -> u8
 
 // Room for a signature by the tree.
 fn blank(alloc: Global, tree: &Tree) -> Result<Vec<u8>, AllocError>
-    ensures { IfOk result (λ bytes. length bytes.items ≡ signature_len_of tree.now.width tree.now.height) }
+    ensures { IfOk result (λ bytes.
+        length bytes.items ≡ signature_len_of tree.now.width tree.now.height) }
 {
     vec![in alloc; 0; signature_len(tree.width(), tree.height())]
 }
 
 impl<D: Disk> Signer<D> {
     ghost use Rattle.host_signer.specs.Signers.{disk_of, key_of, id_of, height_of, next_of};
-    ghost use Rattle.host_signer.specs.Ends.{SignerSays, signer_disk, signer_key, signer_failed, lease_calls, signed_disk, signed_key, sign_failed, is_memory, is_dry};
+    ghost use Rattle.host_signer.specs.Ends.{SignerSays, signer_disk, signer_key, signer_failed};
+    ghost use Rattle.host_signer.specs.Ends.{lease_calls, signed_disk, signed_key, sign_failed, is_memory, is_dry};
 
     /// Opens the lease file of the key of a tree, after making firm what was written before. The leaf that signs next is
     /// one past the last that is gone, or 0. Where the file is not opened, the end tells why, as `leaf_lease::open` does,
@@ -72,20 +75,24 @@ impl<D: Disk> Signer<D> {
         // What it says of the file, where the disk tells what it reads.
         ensures says { ForSome (D.now disk) (λ file. SignerSays tree file result) }
         ensures tree { signer_key result ≡ tree }
-        ensures key { IfOk result (λ signer. (id_of signer ≡ identifier_of tree.seed) × (height_of signer ≡ levels_of tree.height)) }
+        ensures key { IfOk result (λ signer.
+            (id_of signer ≡ identifier_of tree.seed) × (height_of signer ≡ levels_of tree.height)) }
         ensures content { D.now (signer_disk result) ≡ D.now disk }
-        ensures firm { OnOk result ((image : List ℕ) → D.may_leave (signer_disk result) image → D.now (signer_disk result) ≡ Some image) }
+        ensures firm { OnOk result ((image : List ℕ)
+            → D.may_leave (signer_disk result) image → D.now (signer_disk result) ≡ Some image) }
         ensures cause { CountsFaults (D.faults disk) (D.faults (signer_disk result)) (signer_failed result) }
 
         // Each image of each moment is one of those at the start, whatever the answer.
         ensures moments { AtEachMoment D.clock D.during disk (signer_disk result) (D.may_leave disk) }
         ensures keeps_gone { KeepsGone (D.may_leave disk) (D.during (signer_disk result) (D.clock disk)) }
-        ensures keeps_bytes { (at : ℕ) → KeepsByte at (D.may_leave disk) (D.during (signer_disk result) (D.clock disk)) }
+        ensures keeps_bytes { (at : ℕ)
+            → KeepsByte at (D.may_leave disk) (D.during (signer_disk result) (D.clock disk)) }
         ensures no_longer { NoLongerThan 0 (D.may_leave disk) (D.during (signer_disk result) (D.clock disk)) }
         ensures clock { D.clock (signer_disk result) ≤ D.clock disk + 1 }
 
         // It syncs, asks for the length and reads once.
-        ensures calls { Ran D.led disk (Sync ∷ Len ∷ Read 0 (file_size (levels_of tree.height)) ∷ []) (not (signer_failed result)) (signer_disk result) }
+        ensures calls { Ran D.led disk (Sync ∷ Len ∷ Read 0 (file_size (levels_of tree.height)) ∷ [])
+            (not (signer_failed result)) (signer_disk result) }
     {
         match open(disk, tree.id(), height_of(&tree)) {
             Ok(leases) => Ok(Signer { leases, tree }),
@@ -102,35 +109,45 @@ impl<D: Disk> Signer<D> {
     ) -> Result<(Signer<D>, u32, Signature), SignEnd<D>>
         // The leaf that was next signs, and the signature is valid under the public key.
         ensures leaf { IfOk result (λ given. given.1 ≡ next_of self) }
-        ensures signature { IfOk result (λ given. given.2 ≡ signature_of (key_of self) (next_of self) message.now) }
-        ensures valid { IfOk result (λ given. IsValidSignature (public_key_of (key_of self)) message.now given.2) }
-        ensures next { IfOk result (λ given. (next_of given.0 ≡ next_of self + 1) × (id_of given.0 ≡ id_of self) × (height_of given.0 ≡ height_of self)) }
+        ensures signature { IfOk result (λ given.
+            given.2 ≡ signature_of (key_of self) (next_of self) message.now) }
+        ensures valid { IfOk result (λ given.
+            IsValidSignature (public_key_of (key_of self)) message.now given.2) }
+        ensures next { IfOk result (λ given. (next_of given.0 ≡ next_of self + 1)
+            × (id_of given.0 ≡ id_of self) × (height_of given.0 ≡ height_of self)) }
         ensures tree { signed_key result ≡ key_of self }
 
         // That leaf is gone in every image that a crash may leave.
-        ensures gone { OnOk result ((image : List ℕ) → D.may_leave (signed_disk result) image → IsGone (next_of self) image) }
-        ensures firm { OnOk result ((image : List ℕ) → D.may_leave (signed_disk result) image → D.now (signed_disk result) ≡ Some image) }
-        ensures content { OnOk result (D.now (signed_disk result)
-            ≡ option_map (λ file. overwritten file (head_size + next_of self) (1 ∷ [])) (D.now (disk_of self))) }
+        ensures gone { OnOk result ((image : List ℕ)
+            → D.may_leave (signed_disk result) image → IsGone (next_of self) image) }
+        ensures firm { OnOk result ((image : List ℕ)
+            → D.may_leave (signed_disk result) image → D.now (signed_disk result) ≡ Some image) }
+        ensures content { OnOk result (D.now (signed_disk result) ≡ option_map
+            (λ file. overwritten file (head_size + next_of self) (1 ∷ [])) (D.now (disk_of self))) }
 
-        // Where memory is wanting or no leaf is left, nothing changes. No leaf is left where the next is past the last.
+        // Where memory is wanting or no leaf is left, nothing changes.
         ensures memory { IsTrue (is_memory result) → result ≡ Err (SignEnd.Memory self) }
-        ensures dry { IsTrue (is_dry result) → (next_of self ≡ leaves_of (key_of self).height) × (result ≡ Err (SignEnd.Dry self)) }
-        ensures none_left { next_of self ≡ leaves_of (key_of self).height → IsTrue (is_dry result || is_memory result) }
+        ensures dry { IsTrue (is_dry result)
+            → (next_of self ≡ leaves_of (key_of self).height) × (result ≡ Err (SignEnd.Dry self)) }
+        ensures none_left { next_of self ≡ leaves_of (key_of self).height
+            → IsTrue (is_dry result || is_memory result) }
         ensures cause { CountsFaults (D.faults (disk_of self)) (D.faults (signed_disk result)) (sign_failed result) }
 
         // In each image of each moment, whatever the answer: a leaf that was gone is gone, and all other bytes stay.
         ensures moments { AtEachMoment D.clock D.during (disk_of self) (signed_disk result)
             (AfterWrite (D.may_leave (disk_of self)) (head_size + next_of self) 1) }
-        ensures keeps_gone { KeepsGone (D.may_leave (disk_of self)) (D.during (signed_disk result) (D.clock (disk_of self))) }
-        ensures keeps_bytes { (at : ℕ) → at ≢ head_size + next_of self
-            → KeepsByte at (D.may_leave (disk_of self)) (D.during (signed_disk result) (D.clock (disk_of self))) }
-        ensures no_longer { NoLongerThan 0 (D.may_leave (disk_of self)) (D.during (signed_disk result) (D.clock (disk_of self))) }
+        ensures keeps_gone { KeepsGone
+            (D.may_leave (disk_of self)) (D.during (signed_disk result) (D.clock (disk_of self))) }
+        ensures keeps_bytes { (at : ℕ) → at ≢ head_size + next_of self → KeepsByte at
+            (D.may_leave (disk_of self)) (D.during (signed_disk result) (D.clock (disk_of self))) }
+        ensures no_longer { NoLongerThan 0
+            (D.may_leave (disk_of self)) (D.during (signed_disk result) (D.clock (disk_of self))) }
         ensures clock { D.clock (signed_disk result) ≤ D.clock (disk_of self) + 2 }
 
         // It makes the calls of a lease, and none where memory is wanting or no leaf is left.
         ensures calls { Ran D.led (disk_of self)
-            (if is_dry result || is_memory result then [] else lease_calls (next_of self)) (not (sign_failed result)) (signed_disk result) }
+            (if is_dry result || is_memory result then [] else lease_calls (next_of self))
+            (not (sign_failed result)) (signed_disk result) }
     {
         let mut bytes = match blank(alloc, &self.tree) {
             Ok(bytes) => bytes,
@@ -178,7 +195,8 @@ impl Signer<MemDisk> {
     ghost use Rattle.lease_disk.specs.MemDisk.{reserved};
     ghost use Rattle.host_signer.specs.Signers.{disk_of, key_of, id_of, height_of, next_of};
 
-    /// Makes place in the record of the disk for so many further entries, with so many bytes in all.
+    /// Makes place in the record of the disk for so many further entries, with so many bytes in all. Where memory is
+    /// wanting, the disk stays as it was.
     pub fn reserve(&mut self, calls: usize, bytes: usize) -> Result<(), AllocError>
         ensures ok { OnOk result (disk_of self.new ≡ reserved (disk_of self.old) calls bytes) }
         ensures err { OnErr result (disk_of self.new ≡ disk_of self.old) }

@@ -15,21 +15,38 @@ use Rattle.host_signer.proofs.signer.Signer.sign.Goals as goal
 pub returns-in-Err-Dry-clause-dry : goal.returns-in-Err-Dry-clause-dry
 returns-in-Err-Dry-clause-dry g c = λ dry.
     let self = c.args.self in
-    let ended = c.in-Err-Dry.field-0-is in
-    let none_left = subst (λ end. IsTrue (is_dry (Err end)) ↔ (next_of self ≡ 2 ^ height_of self)) ended c.in-Err-Dry.ensures.dry in
-    let untouched = subst (λ end. IsTrue (is_dry (Err end)) → ◌≡◌ {A = Result (Leases g.row.D.Denot g.D.Disk × LeafLease) (LeaseEnd g.row.D.Denot g.D.Disk)} (Err end) (Err (Dry self.leases))) ended c.in-Err-Dry.ensures.untouched in (
+    let leases = c.in-Err-Dry.leases in
+    let Answer : Type 0 = Result (Leases g.row.D.Denot g.D.Disk × LeafLease) (LeaseEnd g.row.D.Denot g.D.Disk) in
+    let none_left =
+    subst (λ end. IsTrue (is_dry (Err end)) ↔ (next_of self ≡ 2 ^ height_of self))
+    c.in-Err-Dry.field-0-is c.in-Err-Dry.ensures.dry in
+    let untouched =
+    subst (λ end. IsTrue (is_dry (Err end)) → ◌≡◌ {A = Answer} (Err end) (Err (Dry self.leases)))
+    c.in-Err-Dry.field-0-is c.in-Err-Dry.ensures.untouched in (
       none_left.0 dry ∙ ap (λ levels. 2 ^ levels) self.same_height,
-      ap (λ signer. Err (SignEnd.Dry signer)) (same_signer self c.in-Err-Dry.leases _ _ (same_leases c.in-Err-Dry.leases self.leases (untouched dry))),
+      ap (λ signer. Err (SignEnd.Dry signer))
+          (same_signer self leases _ _ (same_leases leases self.leases (untouched dry))),
     )
 
 pub returns-in-Err-Dry-clause-keeps_bytes : goal.returns-in-Err-Dry-clause-keeps_bytes
 returns-in-Err-Dry-clause-keeps_bytes g c =
-    subst (λ end. (at : ℕ) → at ≢ head_size + next_of c.args.self → KeepsByte at (g.D.Disk.may_leave (disk_of c.args.self)) (g.D.Disk.during (leased_disk (Err end)) (g.D.Disk.clock (disk_of c.args.self)))) c.in-Err-Dry.field-0-is c.in-Err-Dry.ensures.keeps_bytes
+    let disk = disk_of c.args.self in
+    subst
+    (λ end. (at : ℕ) → at ≢ head_size + next_of c.args.self
+    → KeepsByte at (g.D.Disk.may_leave disk) (g.D.Disk.during (leased_disk (Err end)) (g.D.Disk.clock disk)))
+    c.in-Err-Dry.field-0-is c.in-Err-Dry.ensures.keeps_bytes
 
 pub returns-clause-keeps_gone : goal.returns-clause-keeps_gone
 returns-clause-keeps_gone g c =
-    subst (λ end. KeepsGone (g.D.Disk.may_leave (disk_of c.args.self)) (g.D.Disk.during (leased_disk (Err end)) (g.D.Disk.clock (disk_of c.args.self)))) c.in-Err-Failed.field-0-is c.in-Err-Failed.ensures.keeps_gone
+    let disk = disk_of c.args.self in
+    subst
+    (λ end. KeepsGone (g.D.Disk.may_leave disk) (g.D.Disk.during (leased_disk (Err end)) (g.D.Disk.clock disk)))
+    c.in-Err-Failed.field-0-is c.in-Err-Failed.ensures.keeps_gone
 
 pub returns-clause-keeps_bytes : goal.returns-clause-keeps_bytes
 returns-clause-keeps_bytes g c =
-    subst (λ end. (at : ℕ) → at ≢ head_size + next_of c.args.self → KeepsByte at (g.D.Disk.may_leave (disk_of c.args.self)) (g.D.Disk.during (leased_disk (Err end)) (g.D.Disk.clock (disk_of c.args.self)))) c.in-Err-Failed.field-0-is c.in-Err-Failed.ensures.keeps_bytes
+    let disk = disk_of c.args.self in
+    subst
+    (λ end. (at : ℕ) → at ≢ head_size + next_of c.args.self
+    → KeepsByte at (g.D.Disk.may_leave disk) (g.D.Disk.during (leased_disk (Err end)) (g.D.Disk.clock disk)))
+    c.in-Err-Failed.field-0-is c.in-Err-Failed.ensures.keeps_bytes
