@@ -212,8 +212,8 @@ fn a_lease_formats_once(rt: HostRuntime) -> Result<(), Fail> {
     assert_eq!(rt; status, Status::Done);
     assert_eq!(rt; sink.taken(), LEASE_LINE);
     assert_eq!(rt; disk.bytes().len(), 50);
-    assert_eq!(rt; &disk.bytes()[..18], LEASE_HEAD.as_slice());
-    assert!(rt; disk.bytes()[18..].iter().all(|byte| *byte == 0));
+    assert!(rt; disk.bytes().starts_with(&LEASE_HEAD));
+    assert!(rt; disk.bytes().iter().skip(18).all(|byte| *byte == 0));
     let (status, disk, sink) = leased(alloc, KEYED, "d", 0, disk)?;
     let mut id = [0; 16];
     id.copy_from_slice(&LEASE_HEAD[1..17]);
@@ -271,7 +271,7 @@ fn each_call_of_the_disk_fails_in_turn(rt: HostRuntime) -> Result<(), Fail> {
     let (status, disk, sink) = leased(alloc, KEYED, "d", 1, disk(alloc, 0)?)?;
     assert_eq!(rt; status, Status::WriteFault);
     assert!(rt; sink.taken().is_empty());
-    assert_eq!(rt; &disk.bytes()[..18], LEASE_HEAD.as_slice());
+    assert!(rt; disk.bytes().starts_with(&LEASE_HEAD));
     Ok(())
 }
 
