@@ -1,5 +1,5 @@
 -- What comes of a lease: by the topology, and by the disk.
-use Rattle.std.specs.Prelude.{◌≡◌, ℕ, ◌+◌, ◌≤◌, ⊤, max, List, [], ◌∷◌, ◌++◌, codes, decimal, find, length, take, option_map, if◌then◌else◌, Option, Some, None, Result, Ok, Err}
+use Rattle.std.specs.Prelude.{◌≡◌, ℕ, ◌+◌, ◌≤◌, ⊤, max, List, [], ◌∷◌, ◌++◌, codes, decimal, find, length, take, option_map, if◌then◌else◌, Option, Some, None, IfSome, Result, Ok, Err}
 use Rattle.std.specs.Str.{bytes_eq}
 use Rattle.std.specs.Option.{ForSome}
 use Rattle.hex.specs.Hex.{encode_lower}
@@ -16,6 +16,7 @@ use Rattle.aip_topo.specs.declared.topology.Topology.{Topology}
 use Rattle.aip_topo.specs.declared.faults.TopoEnd.{TopoEnd}
 use Rattle.aip_topo.specs.declared.faults.TopoEnd.TheVariants as topo_end
 use Rattle.aip_topo.specs.Reading.{topology_of}
+use Rattle.aip_top.specs.Words.{Leased}
 use Rattle.aip_top.specs.declared.status.Status.{Status}
 use Rattle.aip_top.specs.declared.status.Status.TheVariants as status
 use Rattle.aip_top.specs.declared.status.LeaseFault.TheVariants as fault
@@ -55,6 +56,10 @@ refusal_in (Keyed k) = None
 abbrev pub OfKey : Asked → (Key → Type 0) → Type 0
 OfKey (Refused end) holds = ⊤
 OfKey (Keyed k) holds = holds k
+
+-- what holds of the key that a lease is for, where the topology is told and has one
+abbrev pub OfItsKey : (List ℕ → Option (List ℕ)) → Leased → (Key → Type 0) → Type 0
+OfItsKey text leased holds = IfSome (text leased.topology) (λ told. OfKey (asked_of told leased.domain) holds)
 
 -- what is written: `lease`, the identifier of the key and its height
 abbrev pub lease_text : Key → List ℕ

@@ -1,5 +1,6 @@
 -- The words of a command line.
-use Rattle.std.specs.Prelude.{ℕ, ◌⊎◌, ⊤, List, [], ◌∷◌, codes, Option, Some, None, if◌then◌else◌}
+use Rattle.std.specs.Prelude.{ℕ, ◌⊎◌, ⊤, List, [], ◌∷◌, codes, map, string_bytes, Option, Some, None, IfSome, if◌then◌else◌}
+use Rattle.std.proofs.Common.{String, Global}
 use Rattle.std.specs.Str.{bytes_eq}
 use Rattle.aip_addr.specs.Naming.{is_name}
 
@@ -42,6 +43,10 @@ command_of (word ∷ topology ∷ []) = command_of_two word topology
 command_of (word ∷ topology ∷ third ∷ []) = command_of_three word topology third
 command_of (word ∷ topology ∷ third ∷ more ∷ words) = None
 
+-- the command that the words of a command line spell
+abbrev pub spelled : List (String Global) → Option Command
+spelled words = command_of (map string_bytes words)
+
 -- the topology file that a command names
 abbrev pub topology_in : Command → List ℕ
 topology_in (Run files) = files.topology
@@ -54,6 +59,10 @@ OfRun None holds = ⊤
 OfRun (Some (Run files)) holds = holds files
 OfRun (Some (Address topology)) holds = ⊤
 OfRun (Some (Lease leased)) holds = ⊤
+
+-- what holds of the texts of the two files, where they are told
+abbrev pub OfTexts : (List ℕ → Option (List ℕ)) → Files → (List ℕ → List ℕ → Type 0) → Type 0
+OfTexts text files holds = IfSome (text files.topology) (λ topology. IfSome (text files.schedule) (holds topology))
 
 -- what holds of the topology file, where the addresses are asked for
 abbrev pub OfAddress : Option Command → (List ℕ → Type 0) → Type 0
