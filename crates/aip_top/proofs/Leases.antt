@@ -11,7 +11,6 @@ use Rattle.aip_top.specs.Leasing.{Asked, Refused, Keyed, OfKey, LeaseSays, asked
 use Rattle.aip_top.specs.Outcomes.{IsOrMemory}
 use Rattle.aip_top.specs.Statuses.{is_disk_fault, IsEarly}
 use Rattle.aip_top.specs.declared.status.Status.{Status}
-use Rattle.aip_top.specs.declared.status.LeaseFault.{LeaseFault}
 use Rattle.aip_top.specs.declared.status.Status.TheVariants as status
 use Rattle.aip_top.specs.declared.status.LeaseFault.TheVariants as fault
 

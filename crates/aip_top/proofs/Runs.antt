@@ -1,9 +1,8 @@
 -- What a run answers, from what its parts answer.
 use Rattle.std.proofs.Common.{◌≡◌, ◌≢◌, ℕ, Bool, true, false, cond, List, [], ◌∷◌, ◌++◌, ◌⊎◌, inl, inr, Option, Some, None, Ok, Err, refl, ap, sym, ◌∙◌, subst}
-use Rattle.std.specs.Prelude.{IfSome, Result, option_map}
+use Rattle.std.specs.Prelude.{IfSome, Result}
 use Rattle.aip_io.specs.Sink.{and_then, TookPart}
 use Rattle.aip_topo.specs.declared.topology.Topology.{Topology}
-use Rattle.aip_topo.specs.declared.faults.TopoFault.{TopoFault}
 use Rattle.aip_topo.specs.declared.faults.TopoEnd.{TopoEnd}
 use Rattle.aip_topo.specs.declared.faults.TopoEnd.TheVariants as topo_end
 use Rattle.aip_topo.specs.Reading.{topology_of}
@@ -14,10 +13,9 @@ use Rattle.aip_top.specs.declared.status.Status.TheVariants as status
 use Rattle.aip_top.specs.declared.schedule.Ended.{Ended}
 use Rattle.aip_top.specs.declared.schedule.Ended.TheVariants as ended
 use Rattle.aip_top.specs.Written.{ending_of}
-use Rattle.aip_top.specs.Statuses.{status_of, is_disk_fault, IsCutShort, IsEarly, IsRefusal}
-use Rattle.aip_top.specs.Outcomes.{IsOrMemory, IsOrUnread, Writes, WritesOnDone}
-use Rattle.aip_top.specs.Addresses.{address_end, addresses_in, address_end_over, addresses_over}
-use Rattle.aip_top.specs.Judged.{IsJudged, refusal_of, topology_end}
+use Rattle.aip_top.specs.Statuses.{status_of, is_disk_fault, IsCutShort, IsRefusal}
+use Rattle.aip_top.specs.Outcomes.{Writes}
+use Rattle.aip_top.specs.Judged.{topology_end}
 
 -- a run over a topology that is built, or else one that ends at once
 built_or_not : (b : Bool) (r : Ran) (end : Status) → cond b None (Some status.Unbuilt) ≡ Some end

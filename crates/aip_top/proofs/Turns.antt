@@ -1,13 +1,11 @@
 -- One line of a schedule, taken.
-use Rattle.std.proofs.Common.{◌≡◌, ℕ, ◌+◌, ◌≤◌, Bool, true, false, cond, List, [], ◌∷◌, ◌++◌, Option, Some, None, Ok, Err, refl, ap, sym, ◌∙◌, append_assoc, rules, arith}
+use Rattle.std.proofs.Common.{◌≡◌, ℕ, ◌+◌, ◌≤◌, true, cond, List, [], ◌∷◌, ◌++◌, Option, Some, Ok, refl, ap, sym, ◌∙◌, append_assoc, arith}
 use Rattle.std.proofs.lemmas.Bool.Decides.{nat_tests}
-use Rattle.std.specs.Prelude.{Result}
 use Rattle.aip_event.specs.declared.event.Event.{Event}
 use Rattle.aip_event.specs.declared.input.Input.{Input}
 use Rattle.aip_topo.specs.declared.topology.Topology.{Topology}
 use Rattle.aip_rules.specs.declared.Entry.{Entry}
 use Rattle.aip_rules.specs.declared.Entry.TheVariants.{Taken, Happened}
-use Rattle.aip_rules.specs.declared.StepFault.{StepFault}
 use Rattle.aip_rules.specs.Step.{is_built, step_of, with_events, after_step}
 use Rattle.aip_rules.specs.Texts.{Ran, by_line, by_input, by_step, ran_from, scheduled, text_of, text_of_run, line_of, refusal_line}
 use Rattle.aip_rules.specs.Texts as texts

@@ -1,5 +1,5 @@
 -- What a status says of the end of a command.
-use Rattle.std.specs.Prelude.{◌≡◌, ℕ, ⊤, Bool, true, false}
+use Rattle.std.specs.Prelude.{ℕ, ⊤, Bool, true, false}
 use Rattle.aip_rules.specs.Texts.{Ending}
 use Rattle.aip_rules.specs.Texts as texts
 use Rattle.aip_top.specs.declared.status.Status.{Status}

@@ -1,5 +1,5 @@
 -- What a lease wants of the disk and writes.
-use Rattle.std.specs.Prelude.{◌≡◌, ℕ, List}
+use Rattle.std.specs.Prelude.{◌≡◌}
 use Rattle.lms_core.specs.Tree.{Key, identifier_of}
 use Rattle.lms_core.specs.Parameters.{levels_of}
 use Rattle.aip_top.specs.Leasing.{Asked, Refused, Keyed, lease_text}

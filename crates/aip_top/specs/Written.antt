@@ -1,5 +1,5 @@
 -- What is written for a schedule.
-use Rattle.std.specs.Prelude.{◌≡◌, ℕ, ◌+◌, ◌≤◌, List, ◌∷◌, ◌++◌, flat_map, Result, Ok, Err}
+use Rattle.std.specs.Prelude.{◌≡◌, ℕ, ◌+◌, ◌≤◌, List, ◌∷◌, ◌++◌, flat_map, Ok, Err}
 use Rattle.aip_event.specs.declared.event.Event.{Event}
 use Rattle.aip_event.specs.declared.input.Input.{Input}
 use Rattle.aip_rules.specs.declared.Entry.TheVariants.{Taken, Happened}

@@ -1,6 +1,6 @@
-use Rattle.std.proofs.Common.{◌≡◌, Some, List, ℕ, map, sym, ap, ◌∙◌}
+use Rattle.std.proofs.Common.{◌≡◌, Some, map, sym, ap, ◌∙◌}
 use Rattle.std.specs.Prelude.{option_map, string_bytes}
-use Rattle.aip_top.specs.Words.{command_of, Command, Lease}
+use Rattle.aip_top.specs.Words.{command_of, Lease}
 use Rattle.aip_top.specs.Named.{named, leased_of}
 use Rattle.aip_top.proofs.Leases.{of_command, of_lease}
 use Rattle.aip_top.proofs.top.aip.Goals as goal

@@ -1,6 +1,5 @@
 use Rattle.std.proofs.Common.{sym, subst}
 use Rattle.aip_top.specs.Statuses.{IsEarly}
-use Rattle.aip_top.specs.Leasing.{asked_of}
 use Rattle.aip_top.proofs.Leases.{lease_ends, of_text}
 use Rattle.aip_top.proofs.top.lease.Goals as goal
 

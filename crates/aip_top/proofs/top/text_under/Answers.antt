@@ -1,4 +1,4 @@
-use Rattle.std.proofs.Common.{◌≡◌, ◌<◌, length, arith, vec_len}
+use Rattle.std.proofs.Common.{◌<◌, length, arith}
 use Rattle.aip_top.proofs.Whole.{read_whole}
 use Rattle.aip_top.proofs.top.text_under.Goals as goal
 
