@@ -1,3 +1,4 @@
+pub mod Delivered
 pub mod Early
 pub mod Joined
 pub mod LinksNow

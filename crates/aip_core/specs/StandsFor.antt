@@ -1,5 +1,5 @@
 -- What a core keeps of its trace.
-use Rattle.std.specs.Prelude.{◌≡◌, ℕ, ◌<◌, ◌≤◌, ◌^◌, reverse}
+use Rattle.std.specs.Prelude.{◌≡◌, ◌<◌, ◌≤◌, ◌^◌, reverse}
 use Rattle.aip_rules.specs.State.{now_of, input_count, flights_of}
 use Rattle.aip_rules.specs.Routes.{links_now}
 use Rattle.aip_core.specs.declared.engine.Core.TheInside.{Inside}

@@ -1,4 +1,4 @@
-use Rattle.std.proofs.Common.{◌≡◌, [], refl, lit<, lit≤}
+use Rattle.std.proofs.Common.{[], refl, lit<, lit≤}
 use Rattle.aip_core.proofs.Stands.{stands}
 use Rattle.aip_core.proofs.LinksNow.{links_at_start}
 use Rattle.aip_core.proofs.engine.Core.new.Goals as goal
