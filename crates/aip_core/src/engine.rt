@@ -118,6 +118,13 @@ impl Core {
         self.ticks
     }
 
+    /// How many flights were put so far. An input puts at most one, so they are at most 65,536.
+    pub fn flights(&self) -> u32
+        ensures { result ≡ flight_count self.now.trace }
+    {
+        self.flights.len() as u32
+    }
+
     // Time moves.
     fn tick(&self, alloc: Global, ticks: u64) -> Result<Events, StepFault>
         ensures { result ≡ tick_of (now_of self.now.trace) ticks }
@@ -302,6 +309,7 @@ impl Core {
 
     // Takes an event that came of the newest input.
     fn with_event(self, alloc: Global, event: &Event) -> Result<Core, AllocError>
+        requires { flight_count (Happened event.now ∷ self.trace) ≤ input_count self.trace }
         ensures { IfOk result (λ core. core ≡ record { topo = self.topo; trace = Happened event.now ∷ self.trace }) }
     {
         let Core {
@@ -324,6 +332,7 @@ impl Core {
 
     // Takes the events that came of the newest input.
     fn with_events(self, alloc: Global, events: &[Event]) -> Result<Core, AllocError>
+        requires { flight_count (with_events events.now self.trace) ≤ input_count self.trace }
         ensures { IfOk result (λ core. core ≡ record { topo = self.topo; trace = with_events events.now self.trace }) }
     {
         let mut core = self;

@@ -14,4 +14,5 @@ invariant_of-result c = record {
   inputs = rw c.new-2.ensures.items refl;
   early = lit< tt;
   few = lit≤ tt;
+  put = rw c.new-3.ensures.items (lit≤ tt);
 }

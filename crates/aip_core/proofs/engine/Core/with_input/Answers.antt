@@ -21,4 +21,5 @@ invariant_of-result c =
       inputs = rw newest (omega (arith, c.self.invariant.inputs));
       early = rw (c.ticks_of.ensures, c.self.invariant.time) (accepted_early c.self.inside.network.topo (reverse c.self.inside.entries.items) c.args.input accepted (rw c.self.invariant.time at c.self.invariant.early));
       few = omega (arith, c.self.invariant.inputs, few);
+      put = omega (arith, c.self.invariant.put);
     }
