@@ -6,3 +6,4 @@ pub mod Kept
 pub mod StandsFor
 pub mod Answers
 pub mod Linked
+pub mod Sides
