@@ -1,5 +1,5 @@
 -- The links of a topology join its routers, also once one of them is cut or mended.
-use Rattle.std.proofs.Common.{◌≡◌, ℕ, zero, suc, ◌<◌, Bool, List, [], ◌∷◌, length, subst, sym, refl, ap, map, set, get_or}
+use Rattle.std.proofs.Common.{◌≡◌, ℕ, zero, suc, ◌<◌, Bool, List, [], ◌∷◌, length, subst, sym, refl, ap, set, get_or, arith}
 use Rattle.std.proofs.lemmas.List.{length-map}
 use Rattle.std.proofs.lemmas.List.Elements.{All-nil, All-cons, All-head, All-tail}
 use Rattle.std.specs.Prelude.{All}
@@ -11,7 +11,7 @@ use Rattle.aip_topo.specs.declared.topology.Router.{Router}
 use Rattle.aip_rules.specs.Nodes.{links_after, seats_after}
 use Rattle.aip_rules.specs.Routes.{domains_of_routers}
 use Rattle.aip_core.specs.Places.{IsAtRouters}
-use Rattle.aip_core.specs.Network.{JoinsBelow, SitsBelow, with_link}
+use Rattle.aip_core.specs.Network.{JoinsBelow, SitsBelow, is_link_up, with_link}
 
 -- the links of lines at the first n routers join these
 pub links_joined : (n : ℕ) (before parts : List Part) → All (IsAtRouters n) parts → All (JoinsBelow n) (links_after before parts)
@@ -47,3 +47,19 @@ pub set_is_with : (es : List Edge) (l : ℕ) (up : Bool) (d : Edge) → set es l
 set_is_with [] l up d = refl
 set_is_with (e ∷ es) zero up d = refl
 set_is_with (e ∷ es) (suc l) up d = ap (λ rest. e ∷ rest) (set_is_with es l up d)
+
+-- the test that is read at a link's place
+pub test_of_link : (es : List Edge) (l : ℕ) (d : Edge) → l < length es → (get_or es l d).up ≡ is_link_up es l
+test_of_link [] l d there = absurd (omega arith)
+test_of_link (e ∷ es) zero d there = refl
+test_of_link (e ∷ es) (suc l) d there = test_of_link es l d (omega arith)
+
+-- to set the test of a link to what it is changes nothing
+pub same_with : (es : List Edge) (l : ℕ) → with_link es l (is_link_up es l) ≡ es
+same_with [] l = refl
+same_with (e ∷ es) zero = refl
+same_with (e ∷ es) (suc l) = ap (λ rest. e ∷ rest) (same_with es l)
+
+-- a link whose test is set to what it is: the links stay
+pub stays_with : (es : List Edge) (l : ℕ) (up : Bool) → is_link_up es l ≡ up → with_link es l up ≡ es
+stays_with es l up same = subst (λ b. with_link es l b ≡ es) same (same_with es l)

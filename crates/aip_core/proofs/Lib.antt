@@ -1,4 +1,6 @@
+pub mod Delivered
 pub mod Early
 pub mod Joined
 pub mod LinksNow
+pub mod Puts
 pub mod Stands

@@ -1,5 +1,5 @@
 -- A network as it stands: a topology, and its links with those that are cut.
-use Rattle.std.specs.Prelude.{◌≡◌, ℕ, ◌<◌, ◌≤◌, Bool, List, [], ◌∷◌, zero, suc, length, All}
+use Rattle.std.specs.Prelude.{ℕ, ◌<◌, ◌≤◌, Bool, false, List, [], ◌∷◌, zero, suc, length, All}
 use Rattle.aip_topo.specs.declared.topology.Topology.{Topology}
 use Rattle.domain_routes.specs.declared.Edge.{Edge}
 use Rattle.aip_rules.specs.declared.Seat.{Seat}
@@ -24,6 +24,12 @@ JoinsBelow n e = (e.a < n) × (e.b < n)
 -- the host stands at one of the first n routers
 abbrev pub SitsBelow : ℕ → Seat → Type 0
 SitsBelow n seat = seat.router < n
+
+-- link l is there and up
+abbrev pub is_link_up : List Edge → ℕ → Bool
+is_link_up [] l = false
+is_link_up (e ∷ es) zero = e.up
+is_link_up (e ∷ es) (suc l) = is_link_up es l
 
 -- the links with link l up or cut
 abbrev pub with_link : List Edge → ℕ → Bool → List Edge

@@ -1,5 +1,5 @@
 -- What is counted while hosts and links take their ports.
-use Rattle.std.specs.Prelude.{◌≡◌, ℕ, ◌<◌, ◌≤◌, List, length, slice_index}
+use Rattle.std.specs.Prelude.{◌≡◌, ℕ, ◌<◌, List, length, slice_index}
 use Rattle.aip_topo.specs.declared.topology.Part.{Part}
 use Rattle.aip_topo.specs.declared.topology.Part.TheVariants.{Host, Link}
 use Rattle.aip_rules.specs.Nodes.{ports_in}

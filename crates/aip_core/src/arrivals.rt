@@ -5,7 +5,7 @@ ghost use Rattle.aip_rules.specs.Router.{dropped, forwarded, one_hop_less, passe
 ghost use Rattle.aip_rules.specs.Host.{at_host, kind_at_host};
 ghost use Rattle.aip_rules.specs.Step.{arrives, arrives_at_port};
 
-use crate::network::Network;
+use crate::routed::Routed;
 use aip_addr::{Bytes, Name};
 use aip_event::{Cause, Event, Events, Reason, Target};
 use aip_frame::{Kind, hop_of, is_frame, kind_of, packet_of, set_hop, to_of};
@@ -54,7 +54,7 @@ fn one_hop_less(alloc: Global, bytes: &[u8]) -> Result<Bytes, AllocError>
 // The router forwards the frame on the port `out`.
 fn forward(
     alloc: Global,
-    network: &Network,
+    network: &Routed,
     at: Arrival,
     own: &Router,
     out: u16,
@@ -76,7 +76,7 @@ fn forward(
     })?;
     events.push(Event::Put {
         flight: at.number,
-        target: network.target_at(at.router, out),
+        target: network.network().target_at(at.router, out),
         bytes,
     })?;
     Ok(events)
@@ -85,7 +85,7 @@ fn forward(
 // A frame that isn't for the router itself.
 fn pass(
     alloc: Global,
-    network: &Network,
+    network: &Routed,
     at: Arrival,
     own: &Router,
     bytes: &[u8],
@@ -107,7 +107,7 @@ fn pass(
 // What arrives at a router.
 fn arrive_at_router(
     alloc: Global,
-    network: &Network,
+    network: &Routed,
     at: Arrival,
     own: &Router,
     bytes: &[u8],
@@ -128,7 +128,7 @@ fn arrive_at_router(
 // What arrives at a port of the router at a position, if there is one.
 fn arrive_at_port(
     alloc: Global,
-    network: &Network,
+    network: &Routed,
     router: usize,
     port: u64,
     number: u64,
@@ -137,7 +137,7 @@ fn arrive_at_port(
     ensures { IfOk result (λ events.
         events ≡ arrives_at_port network.now.topo network.now.links number (Some router) port bytes.now) }
 {
-    match network.routers().get(router) {
+    match network.network().routers().get(router) {
         Some(own) => {
             let at = Arrival {
                 router: router as u16,
@@ -186,7 +186,7 @@ fn take_in(alloc: Global, seat: &Seat, bytes: &[u8]) -> Result<Events, AllocErro
 /// The events where bytes arrive at a target. The only error is want of memory.
 pub fn arrive(
     alloc: Global,
-    network: &Network,
+    network: &Routed,
     number: u64,
     target: &Target,
     bytes: &[u8],
@@ -195,11 +195,11 @@ pub fn arrive(
         events ≡ arrives network.now.topo network.now.links number target.now bytes.now) }
 {
     match target {
-        Target::Port { router, port } => match network.router_named(router) {
+        Target::Port { router, port } => match network.network().router_named(router) {
             Some(place) => arrive_at_port(alloc, network, place, *port, number, bytes),
             None => Ok(Events::new(alloc)),
         },
-        Target::Host { name } => match network.seat_named(name) {
+        Target::Host { name } => match network.network().seat_named(name) {
             Some(seat) => arrive_at_host(alloc, &seat, bytes),
             None => Ok(Events::new(alloc)),
         },

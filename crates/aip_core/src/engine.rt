@@ -13,6 +13,7 @@ ghost use Rattle.aip_rules.specs.declared.Entry.TheVariants.{Taken, Happened};
 use crate::arrivals::{arrive, one_event};
 use crate::copies::{copy_of, push_flight};
 use crate::network::Network;
+use crate::routed::Routed;
 use aip_addr::{Address, Bytes, Name};
 use aip_event::{Event, Events, Input, Target};
 use aip_frame::{Frame, Kind, encode};
@@ -83,15 +84,15 @@ fn ticks_of(input: &Input) -> u64
 }
 
 // The network once an input has cut or mended a link, or as it was.
-fn linked(alloc: Global, network: Network, input: &Input) -> Result<Network, AllocError>
+fn linked(network: Network, input: &Input) -> Network
     requires { LinkIsThere (length network.links) input.now }
-    ensures topo { IfOk result (λ n. n.topo ≡ network.topo) }
-    ensures links { IfOk result (λ n. n.links ≡ links_with input.now network.links) }
+    ensures topo { result.topo ≡ network.topo }
+    ensures links { result.links ≡ links_with input.now network.links }
 {
     match input {
-        Input::Cut { link } => network.with_link(alloc, *link as usize, false),
-        Input::Mend { link } => network.with_link(alloc, *link as usize, true),
-        _ => Ok(network),
+        Input::Cut { link } => network.with_link(*link as usize, false),
+        Input::Mend { link } => network.with_link(*link as usize, true),
+        _ => network,
     }
 }
 
@@ -115,6 +116,13 @@ impl Core {
         ensures { result ≡ now_of self.now.trace }
     {
         self.ticks
+    }
+
+    /// How many flights were put so far. An input puts at most one, so they are at most 65,536.
+    pub fn flights(&self) -> u32
+        ensures { result ≡ flight_count self.now.trace }
+    {
+        self.flights.len() as u32
     }
 
     // Time moves.
@@ -198,36 +206,79 @@ impl Core {
         }
     }
 
-    // A flight is delivered.
-    fn deliver(&self, alloc: Global, flight: u64) -> Result<Result<Events, StepFault>, AllocError>
-        ensures { IfOk result (λ r. r ≡ deliver_of self.now.topo self.now.trace (flight_at self.now.trace flight)) }
+    // A flight that was put is delivered. The core is as it was; its network has its routes from then on.
+    fn deliver_flight(self, alloc: Global, flight: usize) -> Result<(Core, Events), AllocError>
+        requires { flight < flight_count self.trace }
+        ensures core { IfOk result (λ r. r.0 ≡ self) }
+        ensures events { IfOk result (λ r. Ok r.1 ≡ deliver_of self.topo self.trace (flight_at self.trace flight)) }
     {
-        match self.flights.get(flight as usize) {
-            Some(found) => {
-                let number = self.flights.len() as u64;
-                let bytes = found.bytes.as_slice();
-                let events = arrive(alloc, &self.network, number, &found.target, bytes)?;
-                Ok(Ok(events))
-            }
-            None => Ok(Err(StepFault::NoFlight)),
-        }
+        let Core {
+            network,
+            entries,
+            flights,
+            ticks,
+            inputs,
+        } = self;
+        let network = Routed::new(alloc, network)?;
+        let number = flights.len() as u64;
+        let found = &flights[flight];
+        let bytes = found.bytes.as_slice();
+        let events = arrive(alloc, &network, number, &found.target, bytes)?;
+        let core = Core {
+            network: network.into_network(),
+            entries,
+            flights,
+            ticks,
+            inputs,
+        };
+        Ok((core, events))
     }
 
-    // What comes of an input, where one more may be taken.
-    fn outcome(&self, alloc: Global, input: &Input) -> Result<Result<Events, StepFault>, AllocError>
-        ensures { IfOk result (λ r. r ≡ outcome_of self.now.topo self.now.trace input.now) }
+    // A flight is delivered, if it was put. The core is as it was.
+    fn deliver(
+        self,
+        alloc: Global,
+        flight: u64,
+    ) -> Result<(Core, Result<Events, StepFault>), AllocError>
+        ensures core { IfOk result (λ r. r.0 ≡ self) }
+        ensures events { IfOk result (λ r. r.1 ≡ deliver_of self.topo self.trace (flight_at self.trace flight)) }
+    {
+        if flight >= self.flights.len() as u64 {
+            return Ok((self, Err(StepFault::NoFlight)));
+        }
+        let (core, events) = self.deliver_flight(alloc, flight as usize)?;
+        Ok((core, Ok(events)))
+    }
+
+    // What comes of an input, where one more may be taken. The core is as it was.
+    fn outcome(
+        self,
+        alloc: Global,
+        input: &Input,
+    ) -> Result<(Core, Result<Events, StepFault>), AllocError>
+        ensures core { IfOk result (λ r. r.0 ≡ self) }
+        ensures events { IfOk result (λ r. r.1 ≡ outcome_of self.topo self.trace input.now) }
     {
         match input {
-            Input::Tick { ticks } => Ok(self.tick(alloc, *ticks)),
+            Input::Deliver { flight } => self.deliver(alloc, *flight),
+            Input::Tick { ticks } => {
+                let outcome = self.tick(alloc, *ticks);
+                Ok((self, outcome))
+            }
             Input::Send {
                 host,
                 node,
                 packet,
                 body,
-            } => self.send(alloc, host, node, *packet, body.as_slice()),
-            Input::Deliver { flight } => self.deliver(alloc, *flight),
-            Input::Cut { link } | Input::Mend { link } => Ok(self.relink(alloc, *link)),
-            _ => Ok(Ok(Events::new(alloc))),
+            } => {
+                let outcome = self.send(alloc, host, node, *packet, body.as_slice())?;
+                Ok((self, outcome))
+            }
+            Input::Cut { link } | Input::Mend { link } => {
+                let outcome = self.relink(alloc, *link);
+                Ok((self, outcome))
+            }
+            _ => Ok((self, Ok(Events::new(alloc)))),
         }
     }
 
@@ -244,7 +295,7 @@ impl Core {
             ticks,
             inputs,
         } = self;
-        let network = linked(alloc, network, &input)?;
+        let network = linked(network, &input);
         let ticks = ticks + ticks_of(&input);
         entries.push(Entry::Taken(input))?;
         Ok(Core {
@@ -258,6 +309,7 @@ impl Core {
 
     // Takes an event that came of the newest input.
     fn with_event(self, alloc: Global, event: &Event) -> Result<Core, AllocError>
+        requires { flight_count (Happened event.now ∷ self.trace) ≤ input_count self.trace }
         ensures { IfOk result (λ core. core ≡ record { topo = self.topo; trace = Happened event.now ∷ self.trace }) }
     {
         let Core {
@@ -280,6 +332,7 @@ impl Core {
 
     // Takes the events that came of the newest input.
     fn with_events(self, alloc: Global, events: &[Event]) -> Result<Core, AllocError>
+        requires { flight_count (with_events events.now self.trace) ≤ input_count self.trace }
         ensures { IfOk result (λ core. core ≡ record { topo = self.topo; trace = with_events events.now self.trace }) }
     {
         let mut core = self;
@@ -301,13 +354,14 @@ impl Core {
             let fault = StepFault::Many;
             return Err(StepEnd::Refused { core: self, fault });
         }
-        match self.outcome(alloc, &input)? {
+        let (core, outcome) = self.outcome(alloc, &input)?;
+        match outcome {
             Ok(events) => {
-                let core = self.with_input(alloc, input)?;
+                let core = core.with_input(alloc, input)?;
                 let core = core.with_events(alloc, events.as_slice())?;
                 Ok((core, events))
             }
-            Err(fault) => Err(StepEnd::Refused { core: self, fault }),
+            Err(fault) => Err(StepEnd::Refused { core, fault }),
         }
     }
 }

@@ -9,6 +9,7 @@ mod copies;
 mod engine;
 mod network;
 mod places;
+mod routed;
 
 pub use aip_rules::{Entry, Flight, StepFault};
 pub use engine::{Core, StepEnd};

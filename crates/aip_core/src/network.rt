@@ -1,11 +1,11 @@
-// The nodes of a topology, its links as they are, and the routes over them.
+// The nodes of a topology, its links as they are, and the routes over them once they were needed.
 ghost use Rattle.std.specs.Prelude.{◌≡◌, ◌<◌, ◌≤◌, ℕ, List, Option, find, length, option_map, slice_get, slice_index, slice_set, All, IfSome, IfOk, OnOk, OnErr};
 ghost use Rattle.std.specs.Option.{ForSome};
 ghost use Rattle.std.specs.Str.{bytes_eq};
 ghost use Rattle.domain_routes.specs.Table.{IsRoutesOf};
 ghost use Rattle.aip_rules.specs.Nodes.{seats_of, links_of, seat_named, seat_at, seat_with_address, router_named, router_with_address, domain_with_ad, address_named, far_end, name_at, target_at, target_of};
-ghost use Rattle.aip_rules.specs.Routes.{domains_of_routers, goal_of, goal_by_domain, goal_inside, port_of, port_past, port_to_goal, port_of_seat};
-ghost use Rattle.aip_core.specs.Network.{CanStand, JoinsBelow, SitsBelow, with_link};
+ghost use Rattle.aip_rules.specs.Routes.{domains_of_routers, goal_of, goal_by_domain, goal_inside};
+ghost use Rattle.aip_core.specs.Network.{CanStand, JoinsBelow, SitsBelow, is_link_up, with_link};
 
 use crate::places::places_of;
 use aip_addr::{Address, Id, Name};
@@ -16,13 +16,14 @@ use domain_routes::{Edge, Goal, Graph, Routes};
 use std::alloc::{AllocError, Global};
 use std::marker::Model;
 
-/// The nodes of a topology, its links as they are, and the routes over them. Contracts see the topology and the links.
+/// The nodes of a topology, and its links as they are. Contracts see the topology and the links.
 #[derive(Drop)]
 pub struct Network {
     topology: Topology,
     seats: Vec<Seat>,
     links: Vec<Edge>,
-    routes: Routes,
+    // The routes over the links, if they were needed since a link changed.
+    routes: Option<Routes>,
 }
 
 impl Model for Network {
@@ -165,6 +166,13 @@ fn far_end(links: &[Edge], router: u16, port: u16) -> Option<(u16, u16)>
     None
 }
 
+fn is_link_up(links: &[Edge], link: usize) -> bool
+    requires { link < length links.now }
+    ensures { result ≡ is_link_up links.now link }
+{
+    links[link].up
+}
+
 fn set_link(links: &mut [Edge], link: usize, up: bool)
     requires { link < length links.old }
     ensures { links.new ≡ with_link links.old link up }
@@ -179,6 +187,20 @@ fn relinked(links: Vec<Edge>, link: usize, up: bool) -> Vec<Edge>
     let mut links = links;
     set_link(&mut links, link, up);
     links
+}
+
+// The routes that are still right once a link is up or cut: all of them where it was so before.
+#[tactic(auto, using(crate::proofs::Joined::stays_with))]
+fn routes_kept(routes: Option<Routes>, links: &[Edge], link: usize, up: bool) -> Option<Routes>
+    requires { link < length links.now }
+    ensures { (domains : List ℕ) → IfSome routes (λ r. IsRoutesOf r domains links.now)
+        → IfSome result (λ r. IsRoutesOf r domains (with_link links.now link up)) }
+{
+    if is_link_up(links, link) == up {
+        routes
+    } else {
+        None
+    }
 }
 
 // What a frame on a port with no host goes towards, where this is the other end of the link there.
@@ -212,22 +234,6 @@ fn goal_inside(router: Option<u16>, seat: Option<Seat>) -> Option<Goal>
     }
 }
 
-// The port of a host that stands at this router.
-fn port_of_seat(router: u16, seat: Option<Seat>) -> Option<u16>
-    ensures { result ≡ port_of_seat router seat }
-{
-    match seat {
-        Some(seat) => {
-            if seat.router == router {
-                Some(seat.port)
-            } else {
-                None
-            }
-        }
-        None => None,
-    }
-}
-
 impl Network {
     /// The network of a topology, all links up. The only error is want of memory.
     pub fn new(alloc: Global, topology: Topology) -> Result<Network, AllocError>
@@ -240,20 +246,64 @@ impl Network {
             topology.routers.as_slice(),
             topology.parts.as_slice(),
         )?;
-        let routes = routes(alloc, topology.routers.as_slice(), &places.links)?;
         Ok(Network {
             topology,
             seats: places.seats,
             links: places.links,
-            routes,
+            routes: None,
         })
     }
 
-    /// The network with one link up or cut. The only error is want of memory.
-    pub fn with_link(self, alloc: Global, link: usize, up: bool) -> Result<Network, AllocError>
+    /// The network with one link up or cut. Where it was so before, the routes stay.
+    pub fn with_link(self, link: usize, up: bool) -> Network
         requires { link < length self.links }
-        ensures topo { IfOk result (λ n. n.topo ≡ self.topo) }
-        ensures links { IfOk result (λ n. n.links ≡ with_link self.links link up) }
+        ensures topo { result.topo ≡ self.topo }
+        ensures links { result.links ≡ with_link self.links link up }
+    {
+        let Network {
+            topology,
+            seats,
+            links,
+            routes,
+        } = self;
+        let routes = routes_kept(routes, &links, link, up);
+        Network {
+            topology,
+            seats,
+            links: relinked(links, link, up),
+            routes,
+        }
+    }
+
+    /// The network, and the routes over its links: those that it kept, or else computed now. The only error is want
+    /// of memory.
+    pub fn take_routes(self, alloc: Global) -> Result<(Network, Routes), AllocError>
+        ensures network { IfOk result (λ taken. taken.0 ≡ self) }
+        ensures routes { IfOk result (λ taken. IsRoutesOf taken.1 (domains_of_routers self.topo.routers) self.links) }
+    {
+        let Network {
+            topology,
+            seats,
+            links,
+            routes: kept,
+        } = self;
+        let routes = match kept {
+            Some(kept) => kept,
+            None => routes(alloc, topology.routers.as_slice(), &links)?,
+        };
+        let network = Network {
+            topology,
+            seats,
+            links,
+            routes: None,
+        };
+        Ok((network, routes))
+    }
+
+    /// Keeps the routes over the links.
+    pub fn keep_routes(self, routes: Routes) -> Network
+        requires { IsRoutesOf routes (domains_of_routers self.topo.routers) self.links }
+        ensures { result ≡ self }
     {
         let Network {
             topology,
@@ -261,14 +311,12 @@ impl Network {
             links,
             routes: _,
         } = self;
-        let links = relinked(links, link, up);
-        let routes = routes(alloc, topology.routers.as_slice(), &links)?;
-        Ok(Network {
+        Network {
             topology,
             seats,
             links,
-            routes,
-        })
+            routes: Some(routes),
+        }
     }
 
     /// The routers, by their positions.
@@ -338,8 +386,15 @@ impl Network {
         }
     }
 
-    // The goal of an address at a router of this domain.
-    fn goal_of(&self, own: u16, address: &Address) -> Option<Goal>
+    /// The host with this address.
+    pub fn seat_with_address(&self, address: &Address) -> Option<Seat>
+        ensures { result ≡ seat_with_address (seats_of self.now.topo) address.now }
+    {
+        seat_with_address(&self.seats, address)
+    }
+
+    /// The goal of an address at a router of this domain.
+    pub fn goal_of(&self, own: u16, address: &Address) -> Option<Goal>
         ensures { result ≡ goal_of self.now.topo own address.now }
     {
         match domain_with_ad(self.topology.domains.as_slice(), &address.ad) {
@@ -354,29 +409,6 @@ impl Network {
                 }
             }
             None => None,
-        }
-    }
-
-    // The port towards the address's goal.
-    fn port_to_goal(&self, router: u16, own: &Router, address: &Address) -> Option<u16>
-        ensures { result ≡ port_to_goal self.now.topo self.now.links router (goal_of self.now.topo own.now.domain address.now) }
-    {
-        match self.goal_of(own.domain, address) {
-            Some(goal) => self.routes.port(router, goal),
-            None => None,
-        }
-    }
-
-    /// The port of a router towards an address.
-    pub fn port_of(&self, router: u16, own: &Router, address: &Address) -> Option<u16>
-        ensures { result ≡ port_of self.now.topo self.now.links router own.now address.now }
-    {
-        if own.address == *address {
-            return None;
-        }
-        match port_of_seat(router, seat_with_address(&self.seats, address)) {
-            Some(port) => Some(port),
-            None => self.port_to_goal(router, own, address),
         }
     }
 }

@@ -1,4 +1,4 @@
-use Rattle.std.proofs.Common.{◌≡◌, [], refl, lit<, lit≤}
+use Rattle.std.proofs.Common.{[], refl, lit<, lit≤}
 use Rattle.aip_core.proofs.Stands.{stands}
 use Rattle.aip_core.proofs.LinksNow.{links_at_start}
 use Rattle.aip_core.proofs.engine.Core.new.Goals as goal
@@ -14,4 +14,5 @@ invariant_of-result c = record {
   inputs = rw c.new-2.ensures.items refl;
   early = lit< tt;
   few = lit≤ tt;
+  put = rw c.new-3.ensures.items (lit≤ tt);
 }
