@@ -113,7 +113,12 @@ fn each_leaf_signs_once(rt: HostRuntime) -> Result<(), Fail> {
     for leaf in 0..32 {
         assert_eq!(rt; signer.next(), leaf);
         let message = message_of(leaf);
-        let (next, given, signature) = match signer.sign(alloc, message) {
+        // Where memory was wanting, no leaf was spent.
+        let answer = match signer.sign(alloc, message) {
+            Err(SignEnd::Memory { signer }) => signer.sign(alloc, message),
+            answer => answer,
+        };
+        let (next, given, signature) = match answer {
             Ok(given) => given,
             Err(_) => panic!(rt; "a leaf is left"),
         };
