@@ -122,8 +122,7 @@ is_plain (Link link) = true
 abbrev pub is_built_topology : Topology → Bool
 is_built_topology topo = if list_all is_open topo.routers then list_all is_plain topo.parts else false
 
--- the run over what a topology text gives; nothing is run where it is refused or not built. No text gives want of
--- memory: its case, here and elsewhere, stands for the sake of the type alone
+-- the run over what a topology text gives; nothing is run where it is refused or not built
 abbrev pub ran_over : Result Topology TopoEnd → List ℕ → Ran
 ran_over (Ok topo) schedule = if is_built_topology topo then ran topo schedule else record { trace = []; ending = Unbuilt }
 ran_over (Err (topo_end.Line line f)) schedule = record { trace = []; ending = Topology_refused line f }
