@@ -2,6 +2,7 @@
 use Rattle.std.proofs.Common.{◌≡◌, ◌≢◌, ℕ, Bool, true, false, cond, List, [], ◌∷◌, ◌++◌, ◌⊎◌, inl, inr, Option, Some, None, Ok, Err, refl, ap, sym, ◌∙◌, subst}
 use Rattle.std.specs.Prelude.{IfSome, Result}
 use Rattle.aip_io.specs.Sink.{and_then, TookPart}
+use Rattle.std.proofs.lemmas.List.{append-nil}
 use Rattle.aip_topo.specs.declared.topology.Topology.{Topology}
 use Rattle.aip_topo.specs.declared.faults.TopoEnd.{TopoEnd}
 use Rattle.aip_topo.specs.declared.faults.TopoEnd.TheVariants as topo_end
@@ -61,15 +62,10 @@ cut_cases status.Unbuilt h = absurd h
 cut_cases status.DiskFault h = absurd h
 cut_cases (status.Lease f) h = absurd h
 
--- nothing at the end
-at_end : (xs : List ℕ) → xs ++ [] ≡ xs
-at_end [] = refl
-at_end (x ∷ xs) = ap (λ rest. x ∷ rest) (at_end xs)
-
 -- to take nothing is to stay
 and_nothing : (taken : Option (List ℕ)) → and_then taken [] ≡ taken
 and_nothing None = refl
-and_nothing (Some xs) = ap Some (at_end xs)
+and_nothing (Some xs) = ap Some (append-nil xs)
 
 -- nothing was taken, which is a first part of anything
 took_nothing : (taken : Option (List ℕ)) (bytes : List ℕ) → TookPart taken taken bytes

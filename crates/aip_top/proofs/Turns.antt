@@ -3,6 +3,7 @@ use Rattle.std.proofs.Common.{◌≡◌, ℕ, ◌+◌, ◌≤◌, true, cond, Li
 use Rattle.std.proofs.lemmas.Bool.Decides.{nat_tests}
 use Rattle.aip_event.specs.declared.event.Event.{Event}
 use Rattle.aip_event.specs.declared.input.Input.{Input}
+use Rattle.std.proofs.lemmas.List.{append-nil}
 use Rattle.aip_topo.specs.declared.topology.Topology.{Topology}
 use Rattle.aip_rules.specs.declared.Entry.{Entry}
 use Rattle.aip_rules.specs.declared.Entry.TheVariants.{Taken, Happened}
@@ -14,14 +15,9 @@ use Rattle.aip_top.specs.declared.schedule.Turn.{Turn}
 use Rattle.aip_top.specs.declared.schedule.Turn.TheVariants as turn
 use Rattle.aip_top.specs.Written.{events_text, ending_of, IsInputTurn, IsTurn}
 
--- nothing at the end
-at_end : (xs : List ℕ) → xs ++ [] ≡ xs
-at_end [] = refl
-at_end (x ∷ xs) = ap (λ rest. x ∷ rest) (at_end xs)
-
 -- the text with events on top is the text with their lines behind it
 text_with : (events : List Event) (tr : List Entry) → text_of (with_events events tr) ≡ text_of tr ++ events_text events
-text_with [] tr = sym (at_end (text_of tr))
+text_with [] tr = sym (append-nil (text_of tr))
 text_with (event ∷ events) tr =
     text_with events (Happened event ∷ tr) ∙ append_assoc (text_of tr) (line_of (Happened event)) (events_text events)
 

@@ -17,8 +17,9 @@ ghost use Rattle.aip_top.specs.Judged.{IsJudged};
 ghost use Rattle.aip_top.specs.Statuses.{IsEarly, is_disk_fault};
 
 use crate::status::{LeaseFault, Status};
+use crate::writing::put_text;
 use aip_addr::Name;
-use aip_io::{Sink, put_all};
+use aip_io::Sink;
 use aip_text::{push_hex, push_number, push_space, push_text};
 use aip_topo::{Domain, Key, TopoEnd, Topology};
 use leaf_lease::{FormatEnd, format};
@@ -105,19 +106,6 @@ pub fn wanted_in(alloc: Global, text: &[u8], domain: &Name) -> Result<Wanted, St
     }
 }
 
-// Writes the line, once the file is formatted.
-fn put_line<K: Sink>(out: &mut K, text: &[u8]) -> Status
-    ensures formatted { IsFormatted result }
-    ensures writes { WritesOnDone text.now result (K.taken out.old) (K.taken out.new) }
-    ensures write_fault { result ≡ Status.WriteFault → Rose (K.faults out.old) (K.faults out.new) }
-    ensures write_fine { result ≢ Status.WriteFault → K.faults out.new ≡ K.faults out.old }
-{
-    match put_all(out, text) {
-        Ok(()) => Status::Done,
-        Err(_) => Status::WriteFault,
-    }
-}
-
 // Formats the disk for a key. What it says of each moment is gathered.
 fn format_disk<D: Disk>(disk: D, id: [u8; 16], height: u8) -> Result<D, FormatEnd<D>>
     requires height { (height ≡ 5) ⊎ (height ≡ 10) }
@@ -148,7 +136,7 @@ pub fn put_lease<K: Sink, D: Disk>(out: &mut K, wanted: Wanted, disk: D) -> (Sta
     ensures write_fine { result.0 ≢ Status.WriteFault → K.faults out.new ≡ K.faults out.old }
 {
     match format_disk(disk, wanted.id, wanted.height) {
-        Ok(disk) => (put_line(out, &wanted.text), disk),
+        Ok(disk) => (put_text(out, &wanted.text), disk),
         Err(FormatEnd::Already { disk, id, height }) => {
             (Status::Lease(LeaseFault::Already { id, height }), disk)
         }

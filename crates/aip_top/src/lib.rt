@@ -10,6 +10,7 @@ mod leasing;
 mod schedule;
 mod status;
 mod top;
+mod writing;
 
 pub use aip_addr::Memory;
 pub use status::{LeaseFault, Status};

@@ -26,6 +26,7 @@ use crate::command::{Command, command_of};
 use crate::leasing::{Wanted, put_lease, wanted_in};
 use crate::schedule::{Ended, Written, run_schedule};
 use crate::status::Status;
+use crate::writing::put_text;
 use aip_addr::Name;
 use aip_io::{ReadEnd, Shelf, Sink, put_all, read_all};
 use aip_topo::{Part, Router, TopoEnd, Topology};
@@ -250,20 +251,6 @@ fn prepare_addresses<S: Shelf>(
 {
     let text = text_under(alloc, shelf, topology)?;
     judge_addresses(alloc, &text)
-}
-
-// Writes a text.
-fn put_text<K: Sink>(out: &mut K, text: &[u8]) -> Status
-    ensures end { (result ≡ Status.WriteFault) ⊎ (result ≡ Status.Done) }
-    ensures taken { result ≡ Status.Done → K.taken out.new ≡ and_then (K.taken out.old) text.now }
-    ensures prefix { TookPart (K.taken out.old) (K.taken out.new) text.now }
-    ensures write_fault { result ≡ Status.WriteFault → Rose (K.faults out.old) (K.faults out.new) }
-    ensures write_fine { result ≢ Status.WriteFault → K.faults out.new ≡ K.faults out.old }
-{
-    match put_all(out, text) {
-        Ok(()) => Status::Done,
-        Err(_) => Status::WriteFault,
-    }
 }
 
 // Writes the addresses of a topology.
