@@ -6,21 +6,21 @@ use sha2::{Digest, Sha256};
 
 /// The id of a domain (AD), a host or a router (EID): a version byte, 18 bytes of a hash, and an
 /// interface byte.
-#[derive(Clone, Copy, Debug, PartialEq, Eq, PartialOrd, Ord)]
+#[derive(Clone, Copy, Debug, PartialEq, Eq, PartialOrd, Ord, Hash)]
 pub struct Id {
     /// The 20 bytes, in the order of a frame.
     pub bytes: [u8; 20],
 }
 
 /// The key identifier of an id: its version byte and its hash.
-#[derive(Clone, Copy, Debug, PartialEq, Eq, PartialOrd, Ord)]
+#[derive(Clone, Copy, Debug, PartialEq, Eq, PartialOrd, Ord, Hash)]
 pub struct KeyId {
     /// The 19 bytes, in the order of an id.
     pub bytes: [u8; 19],
 }
 
 /// An address: a domain, and a host or a router in it.
-#[derive(Clone, Copy, Debug, PartialEq, Eq, PartialOrd, Ord)]
+#[derive(Clone, Copy, Debug, PartialEq, Eq, PartialOrd, Ord, Hash)]
 pub struct Address {
     /// The domain's id.
     pub ad: Id,
