@@ -18,10 +18,12 @@
 mod fields;
 mod frame;
 mod spelling;
+mod whole;
 
 pub use fields::{body_of, from_of, hop_of, is_frame, kind_of, packet_of, set_hop, to_of};
 pub use frame::{Frame, Kind};
 pub use spelling::encode;
+pub use whole::{no_longer_is_a_frame, no_prefix_is_a_frame, packet_hash, parse};
 
 #[cfg(test)]
 mod tests;
