@@ -1,5 +1,5 @@
 // A disk on a file of the system: the trusted edge. It tells no content and no image.
-ghost use Rattle.std.specs.Prelude.{◌≡◌, ◌≤◌, ◌+◌, ◌^◌, ◌<◌, None, length, IfOk, IsOk, ⊤};
+ghost use Rattle.std.specs.Prelude.{◌≡◌, ◌≤◌, ◌+◌, ◌^◌, ◌<◌, None, length, is_err, IfOk, IsOk, ⊤};
 ghost use Rattle.lease_disk.specs.Causes.{HasCause};
 ghost use Rattle.lease_disk.specs.PastLaws.{none_told};
 
@@ -33,7 +33,7 @@ impl<'a, R: Files> FileDisk<'a, R> {
     fn counted<T: Drop>(&mut self, outcome: io::Result<T>) -> Result<T, Failed>
         ensures value { IfOk result (λ value. outcome ≡ Ok value) }
         ensures served { IsOk outcome → IsOk result }
-        ensures cause { HasCause self.old.faults self.new.faults result }
+        ensures cause { HasCause self.old.faults self.new.faults (is_err result) }
     {
         match outcome {
             Ok(value) => Ok(value),
