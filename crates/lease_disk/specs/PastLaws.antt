@@ -77,13 +77,13 @@ content_reached base (Synced ∷ past) = omega arith
 pub not_written : (base : List ℕ) (past : List Entry) (at : ℕ) (bytes : List ℕ) (done : Bool) (k : ℕ) → ¬ IsPending base (Wrote at bytes done ∷ past) k
     → ((k < at) ⊎ (at + length bytes ≤ k)) × (k < length (synced_of base past)) × ¬ IsPending base past k
 not_written base past at bytes done k firm = (
-    elim (cases_lt k at) [
-      | inl before ↦ inl before
-      | inr from ↦ elim (cases_lt k (at + length bytes)) [ inl inside ↦ absurd (firm (grind (arith, nat_tests))) | inr after ↦ inr after ]
-    ],
-    elim (cases_lt k (length (synced_of base past))) [ inl below ↦ below | inr past_it ↦ absurd (firm (grind (arith, nat_tests))) ],
-    λ pending. firm (grind (arith, nat_tests)),
-  )
+  elim (cases_lt k at) [
+    | inl before ↦ inl before
+    | inr from ↦ elim (cases_lt k (at + length bytes)) [ inl inside ↦ absurd (firm (grind (arith, nat_tests))) | inr after ↦ inr after ]
+  ],
+  elim (cases_lt k (length (synced_of base past))) [ inl below ↦ below | inr past_it ↦ absurd (firm (grind (arith, nat_tests))) ],
+  λ pending. firm (grind (arith, nat_tests)),
+)
 
 -- bytes that no write covers read as they were synced
 pub firm_content : (base : List ℕ) (past : List Entry) (k : ℕ) → k < length (content_of base past) → ¬ IsPending base past k → get_or (content_of base past) k 0 ≡ get_or (synced_of base past) k 0

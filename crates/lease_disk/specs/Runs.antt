@@ -1,16 +1,17 @@
 -- Runs of calls of a disk in memory: what they answer, and where they fall at a stop.
-use Rattle.std.proofs.Common.{◌≡◌, inl, inr, ℕ, suc, ◌+◌, ◌-◌, ◌<◌, ◌≤◌, Bool, true, false, not, ◌&&◌, ◌||◌, ◌==◌, nat_lt, nat_le, if◌then◌else◌, List, [], ◌∷◌, length, replicate, refl, sym, ◌∙◌, ap, subst, arith}
+use Rattle.std.proofs.Common.{◌≡◌, ◌⊎◌, inl, inr, ℕ, suc, ◌+◌, ◌-◌, ◌<◌, ◌≤◌, Bool, true, false, not, ◌&&◌, ◌||◌, ◌==◌, nat_lt, nat_le, if◌then◌else◌, List, [], ◌∷◌, length, max, replicate, refl, sym, ◌∙◌, ap, subst, arith}
 use Rattle.std.specs.List.{list_any}
+use Rattle.std.proofs.lemmas.Bool.{cases_lt}
 use Rattle.std.proofs.lemmas.Bool.Decides.{nat_tests}
 use Rattle.lease_disk.specs.declared.stop.Stop.{Stop}
 use Rattle.lease_disk.specs.declared.stop.Stop.TheVariants.{Unarmed, Armed, Met}
 use Rattle.lease_disk.specs.Call.{Call, Len, Read, Write, Sync}
 use Rattle.lease_disk.specs.Calls.{Ran, firm_calls}
 use Rattle.lease_disk.specs.Images.{overwritten}
-use Rattle.lease_disk.specs.Past.{Entry, Wrote, Synced, content_of, is_pending, kept_bytes}
+use Rattle.lease_disk.specs.Past.{Entry, Wrote, Synced, content_of, is_pending, kept_bytes, filled}
 use Rattle.lease_disk.specs.PastLaws.{filled_last}
 use Rattle.lease_disk.specs.Stop.{is_met, is_stopping, stop_after, stops_within}
-use Rattle.lease_disk.specs.MemDisk.{DiskState, risen, is_listed, refuses_looks, refuses_changes, has_place, is_entered, fails, past_after, after_call, Leads, restarted}
+use Rattle.lease_disk.specs.MemDisk.{DiskState, risen, is_listed, refuses_looks, refuses_changes, has_place, is_entered, fails, past_after, stop_after_call, after_call, Leads, reserved, left_by, restarted}
 
 -- whether every call of a run is served
 abbrev pub is_run_served : DiskState → List Call → Bool
@@ -250,6 +251,7 @@ module _ (disk : DiskState) (calls : List Call) (ready : IsReadyFor (Sync ∷ ca
       longer : (b : Bool) → length (if b then Synced ∷ disk.past else disk.past) ≤ length disk.past + 1
       longer true = omega arith
       longer false = omega arith
+
       same_bytes : (b : Bool) → kept_bytes (if b then Synced ∷ disk.past else disk.past) ≡ kept_bytes disk.past
       same_bytes true = refl
       same_bytes false = refl
@@ -296,3 +298,80 @@ falls_at_stop disk (Sync ∷ calls) ready = elim (is_stopping disk.stop) as (λ 
       ∙ sym (ap (λ b. if b then disk.past else run_past (stop_after disk.stop) calls (if is_pending disk.past then Synced ∷ disk.past else disk.past)) no_stop))
       (sym (ap (λ b. if b then stop_after disk.stop else run_stop (stop_after disk.stop) calls) no_stop))
 ] refl
+
+-- with place made for them, and nothing else in the way, a disk is ready for these calls
+pub ready_once_reserved : (disk : DiskState) (calls : List Call) (entries bytes : ℕ) → disk.failing ≡ [] → is_met disk.stop ≡ false → IsWithin disk.room calls → changes_in calls ≤ entries → bytes_in calls ≤ bytes → IsReadyFor calls (reserved disk entries bytes)
+ready_once_reserved disk calls entries bytes none unmet within few short = record { unlisted = none; unmet = unmet; within = within; entries = omega arith; bytes = omega arith }
+
+-- A disk on which no call is listed, no stop armed and no write pending serves an opening, which makes no entry: it
+-- syncs, asks for the length and reads.
+pub opening_is_served : (disk : DiskState) (at count : ℕ) → disk.failing ≡ [] → disk.stop ≡ Unarmed → is_pending disk.past ≡ false
+    → (is_run_served disk (Sync ∷ Len ∷ Read at count ∷ []) ≡ true) × (after_run disk (Sync ∷ Len ∷ Read at count ∷ []) ≡ record disk { calls = risen (risen (risen disk.calls)) })
+opening_is_served disk at count none unarmed still =
+    let first = quiet_sync disk none unarmed still in
+    let unmet : is_met disk.stop ≡ false = ap is_met unarmed in
+    let once : DiskState = record disk { calls = risen disk.calls } in
+    let twice : DiskState = record disk { calls = risen (risen disk.calls) } in
+    let second = one_more disk once Sync (Len ∷ Read at count ∷ []) first.0 first.1 in
+    let third = one_more once twice Len (Read at count ∷ []) (look_works once none unmet) (looked once Len (look_works once none unmet) refl refl) in
+    let fourth = one_more twice (record disk { calls = risen (risen (risen disk.calls)) }) (Read at count) [] (look_works twice none unmet) (looked twice (Read at count) (look_works twice none unmet) refl refl) in
+    (second.0 ∙ third.0 ∙ fourth.0, second.1 ∙ third.1 ∙ fourth.1)
+  where
+    -- one call that is served
+    one_more : (disk next : DiskState) (call : Call) (calls : List Call) → fails disk call ≡ false → after_call disk call ≡ next → (is_run_served disk (call ∷ calls) ≡ is_run_served next calls) × (after_run disk (call ∷ calls) ≡ after_run next calls)
+    one_more disk next call calls works is = (
+      ap (λ b. not b && is_run_served (after_call disk call) calls) works ∙ ap (λ d. is_run_served d calls) is,
+      ap (λ b. if b then after_call disk call else after_run (after_call disk call) calls) works ∙ ap (λ d. after_run d calls) is,
+    )
+
+    -- a look that is served counts, and changes nothing else
+    looked : (disk : DiskState) (call : Call) → fails disk call ≡ false → past_after disk call ≡ disk.past → stop_after_call disk.stop call ≡ disk.stop → after_call disk call ≡ record disk { calls = risen disk.calls }
+    looked disk call works past stop =
+        ap (λ p. record disk { past = p; calls = risen disk.calls; stop = stop_after_call disk.stop call; faults = if fails disk call then risen disk.faults else disk.faults }) past
+        ∙ ap (λ s. record disk { calls = risen disk.calls; stop = s; faults = if fails disk call then risen disk.faults else disk.faults }) stop
+        ∙ ap (λ b. record disk { calls = risen disk.calls; faults = if b then risen disk.faults else disk.faults }) works
+
+    -- so does a sync where nothing is pending
+    quiet_sync : (disk : DiskState) → disk.failing ≡ [] → disk.stop ≡ Unarmed → is_pending disk.past ≡ false → (fails disk Sync ≡ false) × (after_call disk Sync ≡ record disk { calls = risen disk.calls })
+    quiet_sync disk none unarmed still =
+        let works : fails disk Sync ≡ false =
+        ap (λ b. b || (is_pending disk.past && not (has_place disk 0))) (refuses_at_stop disk none)
+        ∙ ap (λ s. is_stopping s || (is_pending disk.past && not (has_place disk 0))) unarmed
+        ∙ ap (λ b. b && not (has_place disk 0)) still in
+        (works, looked disk Sync works (ap (λ b. if b && not (fails disk Sync) then Synced ∷ disk.past else disk.past) still) (ap stop_after unarmed ∙ sym unarmed))
+
+-- what stands for a firm write at which the disk stops: before the bytes are done, or before they are synced
+stopped_past : (at : ℕ) (bytes : List ℕ) (past : List Entry) (call fill : ℕ) → 1 ≤ call → call ≤ 2
+    → (done : Bool) × (run_past (Armed call fill) (firm_calls at bytes) past ≡ Wrote at bytes done ∷ past) × (run_stop (Armed call fill) (firm_calls at bytes) ≡ Met fill)
+stopped_past at bytes past call fill first last =
+    elim (one_or_two call first last) [
+      | inl one ↦ subst (λ n. (done : Bool) × (run_past (Armed n fill) (firm_calls at bytes) past ≡ Wrote at bytes done ∷ past) × (run_stop (Armed n fill) (firm_calls at bytes) ≡ Met fill)) (sym one) (false, refl, refl)
+      | inr two ↦ subst (λ n. (done : Bool) × (run_past (Armed n fill) (firm_calls at bytes) past ≡ Wrote at bytes done ∷ past) × (run_stop (Armed n fill) (firm_calls at bytes) ≡ Met fill)) (sym two) (true, refl, refl)
+    ]
+  where
+    one_or_two : (n : ℕ) → 1 ≤ n → n ≤ 2 → (n ≡ 1) ⊎ (n ≡ 2)
+    one_or_two n low high = elim (cases_lt n 2) [ inl one ↦ inl (omega arith) | inr two ↦ inr (omega arith) ]
+
+-- A firm write within the file, on a disk that is ready for it and has nothing pending, fails where a stop is armed at its
+-- first or second call, and the restart leaves the byte of the stop over its range and all else as it was.
+pub firm_write_stops : (disk : DiskState) (at : ℕ) (bytes : List ℕ) (call fill : ℕ) → IsReadyFor (firm_calls at bytes) disk → is_pending disk.past ≡ false → at + length bytes ≤ length (content_of disk.base disk.past)
+    → disk.stop ≡ Armed call fill → 1 ≤ call → call ≤ 2
+    → (is_run_served disk (firm_calls at bytes) ≡ false) × ((restarted (after_run disk (firm_calls at bytes))).base ≡ overwritten (content_of disk.base disk.past) at (replicate (length bytes) fill))
+firm_write_stops disk at bytes call fill ready still fits armed first last =
+    let falls = falls_at_stop disk (firm_calls at bytes) ready in
+    let after = after_run disk (firm_calls at bytes) in
+    let ends = stopped_past at bytes disk.past call fill first last in
+    let stop : after.stop ≡ Met fill = falls.stop ∙ ap (λ s. run_stop s (firm_calls at bytes)) armed ∙ ends.2 in
+    let past : after.past ≡ Wrote at bytes ends.0 ∷ disk.past = falls.past ∙ ap (λ s. run_past s (firm_calls at bytes) disk.past) armed ∙ ends.1 in (
+      falls.answer ∙ ap (λ s. not (stops_within 2 s)) armed ∙ ap not (met_within call fill last),
+      ap (λ s. left_by s after.base after.past) stop
+          ∙ ap (λ b. filled b after.past fill) falls.base
+          ∙ ap (λ p. filled disk.base p fill) past
+          ∙ filled_last disk.base disk.past at bytes ends.0 fill still fits,
+    )
+  where
+    met_within : (call fill : ℕ) → call ≤ 2 → stops_within 2 (Armed call fill) ≡ true
+    met_within call fill last = elim (cases_lt call 2) [
+      | inl one ↦ let low : nat_le call 1 ≡ true = grind (arith, nat_tests) in ap (λ b. b || (is_stopping (stop_after (Armed call fill)) || false)) low
+      | inr two ↦ let is : call ≡ 2 = omega arith in ap (λ n. stops_within 2 (Armed n fill)) is
+    ]

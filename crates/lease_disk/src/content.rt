@@ -101,7 +101,11 @@ fn is_waiting(marks: &[Mark], firm: usize, k: usize) -> bool
 fn byte_left(byte: u8, marks: &[Mark], firm: usize, k: usize, fill: u8) -> u8
     ensures { result ≡ (if list_any (covers k) marks.now || nat_le firm k then fill else byte) }
 {
-    if is_waiting(marks, firm, k) { fill } else { byte }
+    if is_waiting(marks, firm, k) {
+        fill
+    } else {
+        byte
+    }
 }
 
 // Writes the byte wherever one waits for a sync: past the firm length, and where a write is marked.

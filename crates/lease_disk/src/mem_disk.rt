@@ -159,6 +159,7 @@ impl MemDisk {
         append(&mut base, &content);
         marks.clear();
         written.clear();
+        let stop = Stop::Unarmed;
         MemDisk {
             firm_marks: 0,
             firm_length: base.len(),
@@ -168,7 +169,7 @@ impl MemDisk {
             written,
             calls,
             failing,
-            stop: Stop::Unarmed,
+            stop,
             room,
             entry_place,
             byte_place,
