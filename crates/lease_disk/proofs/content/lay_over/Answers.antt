@@ -1,7 +1,7 @@
 use Rattle.std.proofs.Common.{◌≡◌, length, ◌∙◌, arith}
 use Rattle.std.proofs.lemmas.List.{take_at}
 use Rattle.lease_disk.proofs.Bytes.{padded-overwritten}
-use Rattle.lease_disk.proofs.mem_disk.lay_over.Goals as goal
+use Rattle.lease_disk.proofs.content.lay_over.Goals as goal
 
 pub returns-clause-items : goal.returns-clause-items
 returns-clause-items c =
