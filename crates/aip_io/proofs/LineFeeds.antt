@@ -1,7 +1,6 @@
 -- Where line feeds stand, and the lines that they end.
-use Rattle.std.proofs.Common.{◌≡◌, ◌≢◌, ℕ, zero, suc, ◌+◌, ◌-◌, ◌<◌, ◌≤◌, ◌==◌, Bool, true, false, not, ◌&&◌, List, [], ◌∷◌, ◌++◌, length, take, drop, get_or, slice_range, append_assoc, refl, sym, ap, ◌∙◌, arith, add-one, rules}
-use Rattle.std.specs.List.{list_all, onto_first}
-use Rattle.std.proofs.lemmas.Grind.{common_steps}
+use Rattle.std.proofs.Common.{◌≡◌, ◌≢◌, ℕ, zero, suc, ◌+◌, ◌-◌, ◌<◌, ◌≤◌, ◌==◌, Bool, true, false, not, ◌&&◌, List, [], ◌∷◌, ◌++◌, length, take, drop, get_or, slice_range, append_assoc, refl, sym, ap, ◌∙◌, arith}
+use Rattle.std.specs.List.{onto_first}
 use Rattle.std.proofs.lemmas.Bool.{and_parts, eqb-true}
 use Rattle.std.proofs.lemmas.List.{take-append-drop, append-nil, drop_all, length-drop, length-take, take_all, take_at, take-take, drop-drop, drop-take, get_or-drop}
 use Rattle.std.proofs.lemmas.Slice.{between_is}

@@ -1,4 +1,4 @@
-use Rattle.std.proofs.Common.{◌≡◌, ◌++◌, refl}
+use Rattle.std.proofs.Common.{refl}
 use Rattle.aip_io.proofs.LineFeeds.{line_at, long_at}
 use Rattle.aip_io.proofs.lines.Lines.answer_at.Goals as goal
 

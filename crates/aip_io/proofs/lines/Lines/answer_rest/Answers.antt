@@ -1,4 +1,4 @@
-use Rattle.std.proofs.Common.{◌≡◌, ◌<◌, ◌++◌, length, arith, ap, refl}
+use Rattle.std.proofs.Common.{◌≡◌, ◌<◌, length, arith, ap, refl}
 use Rattle.aip_io.proofs.LineFeeds.{last_rest, long_rest}
 use Rattle.aip_io.proofs.lines.Lines.answer_rest.Goals as goal
 

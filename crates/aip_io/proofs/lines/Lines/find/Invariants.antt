@@ -1,4 +1,4 @@
-use Rattle.std.proofs.Common.{◌≡◌, ◌≤◌, ◌+◌, ◌-◌, ℕ, List, length, take, true, IfSome, MatchOption}
+use Rattle.std.proofs.Common.{◌≡◌, ◌+◌, ◌-◌, ℕ, List, length, true, IfSome, MatchOption}
 use Rattle.aip_text.specs.Lines.{has_no_line_feed}
 use Rattle.aip_io.specs.Feeds.{IsFeed}
 use Rattle.aip_io.specs.Lines.{left_of, turns_of}

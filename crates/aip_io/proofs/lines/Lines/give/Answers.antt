@@ -1,4 +1,4 @@
-use Rattle.std.proofs.Common.{◌≡◌, ◌-◌, ◌≤◌, length, slice_range, arith, refl}
+use Rattle.std.proofs.Common.{◌-◌, ◌≤◌, arith, refl}
 use Rattle.aip_io.proofs.LineFeeds.{rest_of_range, front_of_range, length-range}
 use Rattle.aip_io.proofs.lines.Lines.give.Goals as goal
 
