@@ -26,46 +26,43 @@ challenge_in body = take 154 body
 abbrev pub key_in : List ℕ → List ℕ
 key_in body = take 56 (drop 154 body)
 
--- the signature in a response, to the end of its body
+-- the signature in a response, behind the key to the end of its body
 abbrev pub signature_in : List ℕ → List ℕ
-signature_in body = drop 210 body
+signature_in body = drop 56 (drop 154 body)
 
 -- two addresses are the same
 abbrev pub is_address : Address → Address → Bool
 is_address a b = bytes_eq a.ad.bytes b.ad.bytes && bytes_eq a.eid.bytes b.eid.bytes
 
 -- the challenge was this router's, and asked this source
-abbrev pub is_asked : RouterKey → Address → Asked → Bool
+unfoldable pub is_asked : RouterKey → Address → Asked → Bool
 is_asked router source asked = is_address asked.router router.address && is_address asked.source source
 
 -- the current epoch is that of the challenge, or the next
-abbrev pub is_current : ℕ → ℕ → Bool
+unfoldable pub is_current : ℕ → ℕ → Bool
 is_current current epoch = (current == epoch) || (current == epoch + 1)
 
 -- the tag of a challenge, behind what it asks, is the router's
-abbrev pub has_tag : RouterKey → List ℕ → ℕ → Bool
-has_tag router challenge epoch = bytes_eq (drop 122 challenge) (tag_of router epoch (take 122 challenge))
+unfoldable pub has_tag : RouterKey → List ℕ → ℕ → Bool
+has_tag router challenge epoch = bytes_eq (take 32 (drop 122 challenge)) (tag_of router epoch (take 122 challenge))
 
--- the signature in a response is valid under the key in it, for the text of the challenge in it
-abbrev pub is_signed : List ℕ → Bool
-is_signed body = is_valid_signature (key_in body) (response_text_of (challenge_in body)) (signature_in body)
-
--- how a router judges a source's answer to what was asked, by the first line that applies
-abbrev pub answer_verdict : RouterKey → ℕ → Address → List ℕ → Asked → Checked
-answer_verdict router now source body asked =
+-- how a router judges a source's answer to a challenge, by the first line that applies
+abbrev pub answer_verdict : RouterKey → ℕ → Address → List ℕ → List ℕ → List ℕ → Checked
+answer_verdict router now source challenge key signature =
+    let asked = asked_in challenge in
     if not (is_asked router source asked) then checked.Other else
     if not (is_current (epoch_at router now) asked.epoch) then checked.Old else
-    if not (has_tag router (challenge_in body) asked.epoch) then checked.Tag else
+    if not (has_tag router challenge asked.epoch) then checked.Tag else
     if nat_le router.ports asked.port then checked.Port else
-    if not (is_owner (key_in body) source.eid) then checked.Key else
-    if not (is_signed body) then checked.Signature else
+    if not (is_owner key source.eid) then checked.Key else
+    if not (is_valid_signature key (response_text_of challenge) signature) then checked.Signature else
     checked.Proved source asked.port
 
 -- how a router judges a response at a time: too short a body, or the verdict on its source's answer
 abbrev pub response_verdict : RouterKey → ℕ → Frame → Checked
 response_verdict router now frame =
     if nat_lt (length frame.body) 210 then checked.Body else
-    answer_verdict router now frame.from frame.body (asked_in (challenge_in frame.body))
+    answer_verdict router now frame.from (challenge_in frame.body) (key_in frame.body) (signature_in frame.body)
 
 -- the number of a refusal, 1 to 7 in the order of the lines; 0 for a source that is proved
 abbrev pub refusal_number : Checked → ℕ

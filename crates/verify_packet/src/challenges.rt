@@ -1,8 +1,8 @@
 // What a router asks, and how it is read again.
-ghost use Rattle.std.specs.Prelude.{◌≡◌, ◌<◌, ◌≤◌, ◌++◌, length, take, drop};
+ghost use Rattle.std.specs.Prelude.{◌≡◌, ◌<◌, ◌≤◌, ◌+◌, length, take, drop};
 ghost use Rattle.byteorder.specs.Endian.{big_bytes, big_number};
 ghost use Rattle.aip_addr.specs.Ids.{address_bytes, address_of};
-ghost use Rattle.verify_packet.specs.Challenge.{asked_bytes, asked_in, challenge_of, epoch_at, tag_of};
+ghost use Rattle.verify_packet.specs.Challenge.{Fits, asked_bytes, asked_in, challenge_of, epoch_at, tag_of};
 
 use aip_addr::Address;
 use aip_mac::{hmac, secret};
@@ -59,6 +59,16 @@ pub fn challenge(
     body
 }
 
+// Writes an address.
+fn write_address(out: &mut [u8], address: &Address)
+    requires { length out.old ≡ 40 }
+    ensures spelled { out.new ≡ address_bytes address.now }
+    ensures ad { length address.now.ad.bytes ≡ 20 }
+    ensures eid { length address.now.eid.bytes ≡ 20 }
+{
+    out.copy_from_slice(&address.write());
+}
+
 // Writes what is asked.
 fn write_asked(
     out: &mut [u8],
@@ -69,7 +79,14 @@ fn write_asked(
     epoch: u64,
 )
     requires { length out.old ≡ 122 }
-    ensures { out.new ≡ asked_bytes (record {
+    ensures spelled { out.new ≡ asked_bytes (record {
+      router = router.now;
+      source = source.now;
+      hash = hash.now;
+      port = port;
+      epoch = epoch;
+    }) }
+    ensures fits { Fits (record {
       router = router.now;
       source = source.now;
       hash = hash.now;
@@ -78,9 +95,9 @@ fn write_asked(
     }) }
 {
     let (router_part, rest) = out.split_at_mut(40);
-    router_part.copy_from_slice(&router.write());
+    write_address(router_part, router);
     let (source_part, rest) = rest.split_at_mut(40);
-    source_part.copy_from_slice(&source.write());
+    write_address(source_part, source);
     let (hash_part, rest) = rest.split_at_mut(32);
     hash_part.copy_from_slice(hash);
     let (port_part, epoch_part) = rest.split_at_mut(2);
@@ -89,6 +106,7 @@ fn write_asked(
 }
 
 /// The tag of a router over bytes, under its secret of an epoch since its boot.
+#[tactic(auto, unfolding(crate::specs::Challenge::tag_of))]
 pub fn router_tag(router: &RouterKey, epoch: u64, bytes: &[u8]) -> [u8; 32]
     ensures { result ≡ tag_of router.now epoch bytes.now }
 {
@@ -103,6 +121,7 @@ fn address_in(bytes: &[u8], place: usize) -> Address
 }
 
 /// The router that asks, by a challenge's body.
+#[tactic(auto, unfolding(crate::specs::Challenge::asked_in))]
 pub fn asked_router(body: &[u8; 154]) -> Address
     ensures { result ≡ (asked_in body.now).router }
 {
@@ -110,6 +129,7 @@ pub fn asked_router(body: &[u8; 154]) -> Address
 }
 
 /// The source that is asked, by a challenge's body.
+#[tactic(auto, unfolding(crate::specs::Challenge::asked_in))]
 pub fn asked_source(body: &[u8; 154]) -> Address
     ensures { result ≡ (asked_in body.now).source }
 {
@@ -117,6 +137,7 @@ pub fn asked_source(body: &[u8; 154]) -> Address
 }
 
 /// The hash of the packet that is asked about, by a challenge's body.
+#[tactic(auto, unfolding(crate::specs::Challenge::asked_in))]
 pub fn asked_hash(body: &[u8; 154]) -> [u8; 32]
     ensures { result ≡ (asked_in body.now).hash }
 {
@@ -126,15 +147,26 @@ pub fn asked_hash(body: &[u8; 154]) -> [u8; 32]
 }
 
 /// The port at which the packet came, by a challenge's body.
+#[tactic(auto, unfolding(crate::specs::Challenge::asked_in))]
 pub fn asked_port(body: &[u8; 154]) -> u16
     ensures { result ≡ (asked_in body.now).port }
 {
-    BigEndian::read_u16(&body[112..])
+    BigEndian::read_u16(&body[112..114])
 }
 
 /// The epoch of the question, by a challenge's body.
+#[tactic(auto, unfolding(crate::specs::Challenge::asked_in))]
 pub fn asked_epoch(body: &[u8; 154]) -> u64
     ensures { result ≡ (asked_in body.now).epoch }
 {
-    BigEndian::read_u64(&body[114..])
+    BigEndian::read_u64(&body[114..122])
+}
+
+/// The tag of a challenge, by its body.
+pub fn asked_tag(body: &[u8; 154]) -> [u8; 32]
+    ensures { result ≡ take 32 (drop 122 body.now) }
+{
+    let mut tag = [0; 32];
+    tag.copy_from_slice(&body[122..154]);
+    tag
 }

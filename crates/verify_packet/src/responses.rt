@@ -4,10 +4,11 @@ ghost use Rattle.aip_frame.specs.Frame.{frame_of};
 ghost use Rattle.aip_frame.specs.declared.frame.Kind.TheVariants as kind;
 ghost use Rattle.lms_core.specs.Verify.{is_valid_signature};
 ghost use Rattle.verify_packet.specs.Challenge.{asked_in, epoch_at};
-ghost use Rattle.verify_packet.specs.Response.{answer_verdict, challenge_in, has_tag, is_asked, is_current, is_signed, key_in, refusal_number, response_of, response_text_of, response_verdict};
+ghost use Rattle.verify_packet.specs.Response.{answer_verdict, challenge_in, has_tag, is_asked, is_current, key_in, refusal_number, response_of, response_text_of, response_verdict, signature_in};
 
 use crate::challenges::{
-    ASKED_LEN, RouterKey, asked_epoch, asked_port, asked_router, asked_source, router_tag,
+    ASKED_LEN, RouterKey, asked_epoch, asked_port, asked_router, asked_source, asked_tag,
+    router_tag,
 };
 use aip_addr::{Address, Bytes, Memory, owns};
 use aip_frame::{body_of, from_of};
@@ -86,17 +87,8 @@ pub fn response_body(
     Ok(Bytes::from_vec(body))
 }
 
-// Whether the signature in a response's body is valid under the key in it.
-fn is_signed(body: &[u8], asked: &[u8; 154], key: &[u8; 56]) -> bool
-    requires long { 210 ≤ length body.now }
-    requires asked { asked.now ≡ challenge_in body.now }
-    requires key { key.now ≡ key_in body.now }
-    ensures { result ≡ is_signed body.now }
-{
-    verify_under(key, &response_text(asked), &body[210..])
-}
-
 // Whether a challenge was this router's, and asked this source.
+#[tactic(auto, unfolding(crate::specs::Response::is_asked))]
 fn is_asked(router: &RouterKey, source: &Address, asked: &[u8; 154]) -> bool
     ensures { result ≡ is_asked router.now source.now (asked_in asked.now) }
 {
@@ -104,6 +96,7 @@ fn is_asked(router: &RouterKey, source: &Address, asked: &[u8; 154]) -> bool
 }
 
 // Whether the current epoch is that of a challenge, or the next.
+#[tactic(auto, unfolding(crate::specs::Response::is_current))]
 fn is_current(current: u64, epoch: u64) -> bool
     ensures { result ≡ is_current current epoch }
 {
@@ -111,14 +104,35 @@ fn is_current(current: u64, epoch: u64) -> bool
 }
 
 // Whether the tag of a challenge is the router's.
+#[tactic(auto, unfolding(crate::specs::Response::has_tag))]
 fn has_tag(router: &RouterKey, asked: &[u8; 154], epoch: u64) -> bool
     ensures { result ≡ has_tag router.now asked.now epoch }
 {
-    let tag = router_tag(router, epoch, &asked[..ASKED_LEN]);
-    asked[ASKED_LEN..] == tag[..]
+    asked_tag(asked) == router_tag(router, epoch, &asked[..ASKED_LEN])
+}
+
+// A challenge's body as an array.
+fn challenge_in(bytes: &[u8]) -> [u8; 154]
+    requires { length bytes.now ≡ 154 }
+    ensures { result ≡ bytes.now }
+{
+    let mut asked = [0; 154];
+    asked.copy_from_slice(bytes);
+    asked
+}
+
+// A public key as an array.
+fn key_in(bytes: &[u8]) -> [u8; 56]
+    requires { length bytes.now ≡ 56 }
+    ensures { result ≡ bytes.now }
+{
+    let mut key = [0; 56];
+    key.copy_from_slice(bytes);
+    key
 }
 
 /// How a router judges a response that reaches it at a time: the first refusal that applies, or the source as proved.
+#[tactic(auto, using(crate::proofs::Answering::judged, crate::proofs::Answering::short))]
 pub fn check(router: &RouterKey, now: u64, frame: &[u8]) -> Checked
     requires epochs { 0 < router.now.epoch_length }
     requires frame { IsSome (frame_of frame.now) }
@@ -129,36 +143,58 @@ pub fn check(router: &RouterKey, now: u64, frame: &[u8]) -> Checked
     if body.len() < 210 {
         return Checked::Body;
     }
-    judge(router, now, &from_of(frame), body)
+    judge_body(router, now, &from_of(frame), body)
 }
 
 // How a router judges the answer in a body that is long enough.
-fn judge(router: &RouterKey, now: u64, source: &Address, body: &[u8]) -> Checked
+fn judge_body(router: &RouterKey, now: u64, source: &Address, body: &[u8]) -> Checked
     requires epochs { 0 < router.now.epoch_length }
     requires long { 210 ≤ length body.now }
-    ensures { result ≡ answer_verdict router.now now source.now body.now (asked_in (challenge_in body.now)) }
+    ensures { result ≡ answer_verdict router.now now source.now
+        (challenge_in body.now) (key_in body.now) (signature_in body.now) }
 {
-    let mut asked = [0; 154];
-    asked.copy_from_slice(&body[..154]);
-    let mut key = [0; 56];
-    key.copy_from_slice(&body[154..210]);
-    let port = asked_port(&asked);
-    if !is_asked(router, source, &asked) {
+    let (asked, rest) = body.split_at(154);
+    let (key, signature) = rest.split_at(56);
+    judge(
+        router,
+        now,
+        source,
+        &challenge_in(asked),
+        &key_in(key),
+        signature,
+    )
+}
+
+// How a router judges the answer to a challenge.
+fn judge(
+    router: &RouterKey,
+    now: u64,
+    source: &Address,
+    asked: &[u8; 154],
+    key: &[u8; 56],
+    signature: &[u8],
+) -> Checked
+    requires epochs { 0 < router.now.epoch_length }
+    ensures { result ≡ answer_verdict router.now now source.now asked.now key.now signature.now }
+{
+    if !is_asked(router, source, asked) {
         return Checked::Other;
     }
-    if !is_current(now / router.epoch_length, asked_epoch(&asked)) {
+    let epoch = asked_epoch(asked);
+    if !is_current(now / router.epoch_length, epoch) {
         return Checked::Old;
     }
-    if !has_tag(router, &asked, asked_epoch(&asked)) {
+    if !has_tag(router, asked, epoch) {
         return Checked::Tag;
     }
+    let port = asked_port(asked);
     if port >= router.ports {
         return Checked::Port;
     }
-    if !owns(&key, &source.eid) {
+    if !owns(key, &source.eid) {
         return Checked::Key;
     }
-    if !is_signed(body, &asked, &key) {
+    if !verify_under(key, &response_text(asked), signature) {
         return Checked::Signature;
     }
     Checked::Proved {
