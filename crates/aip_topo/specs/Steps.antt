@@ -1,6 +1,7 @@
--- What a line may add to a topology, and the faults that keep it from it.
-use Rattle.std.specs.Prelude.{ℕ, ◌==◌, ◌||◌, Bool, true, false, not, nat_lt, nat_le, List, [], ◌∷◌, ◌++◌, length, take, count_by, position, slice_get, slice_set, slice_index, unwrap_or, option_map, option_and_then, if◌then◌else◌, Option, Some, None, Result, Ok, Err}
+-- What a line does to what stands: the faults that keep it out, in their order, and what it adds.
+use Rattle.std.specs.Prelude.{ℕ, ◌==◌, ◌||◌, Bool, true, false, not, nat_lt, nat_le, List, [], ◌∷◌, ◌++◌, length, take, count_by, position, slice_get, slice_set, slice_index, unwrap_or, option_map, replicate, if◌then◌else◌, Option, Some, None, Result, Ok, Err}
 use Rattle.std.specs.List.{list_any}
+use Rattle.std.specs.Option.{is_none}
 use Rattle.std.specs.Str.{bytes_eq}
 use Rattle.aip_addr.specs.Ids.{id_of_key, id_of_router}
 use Rattle.aip_addr.specs.declared.ids.Id.{Id}
@@ -13,10 +14,8 @@ use Rattle.aip_topo.specs.declared.lines.Origin.{Origin}
 use Rattle.aip_topo.specs.declared.lines.Origin.TheVariants as origin
 use Rattle.aip_topo.specs.declared.lines.Setting.{Setting}
 use Rattle.aip_topo.specs.declared.lines.Setting.TheVariants as setting
-use Rattle.aip_topo.specs.declared.steps.Entry.{Entry}
-use Rattle.aip_topo.specs.declared.steps.Entry.TheVariants as entry
-use Rattle.aip_topo.specs.declared.steps.Found.{Found}
-use Rattle.aip_topo.specs.declared.steps.Found.TheVariants as found
+use Rattle.aip_topo.specs.declared.entries.Entry.{Entry}
+use Rattle.aip_topo.specs.declared.entries.Entry.TheVariants as entry
 use Rattle.aip_topo.specs.declared.steps.Draft.{Draft}
 use Rattle.aip_topo.specs.declared.topology.Settings.{Settings}
 use Rattle.aip_topo.specs.declared.topology.Domain.{Domain}
@@ -116,32 +115,13 @@ domain_place name domains = position (names_domain name) domains
 abbrev pub router_place : List ℕ → List Router → Option ℕ
 router_place name routers = position (names_router name) routers
 
--- the id of the domain at a place
-abbrev pub ad_at : ℕ → List Domain → Option Id
-ad_at place domains = option_map (λ domain. domain.ad) (slice_get domains place)
-
--- a router of this name in the domain of that name, and nothing where there is no such domain
-abbrev pub router_found : Topology → List ℕ → List ℕ → Bool → List ℕ → Option Found
-router_found t name domain checking master =
-    option_and_then (λ place. option_map (λ ad. found.Router (record { name = name; domain = place; checking = checking; master = master; address = record { ad = ad; eid = id_of_router name } })) (ad_at place t.domains)) (domain_place domain t.domains)
-
--- a host of this name at the router of that name, and nothing where there is no such router
-abbrev pub host_found : Topology → List ℕ → List ℕ → Bool → Origin → Option Found
-host_found t name router guarded from =
-    option_map (λ place. found.Host name place guarded from) (router_place router t.routers)
-
--- a link of the routers of these names, and nothing where there is no such router
-abbrev pub link_found : Topology → List ℕ → List ℕ → Bool → Bool → Option Found
-link_found t a b a_trusts b_trusts =
-    option_and_then (λ first. option_map (λ second. found.Link (record { a = first; b = second; a_trusts = a_trusts; b_trusts = b_trusts })) (router_place b t.routers)) (router_place a t.routers)
-
--- a line with its names looked up among the domains and routers before; nothing where one of them isn't there
-abbrev pub found_of : Topology → Line → Option Found
-found_of t (line.Set s value) = Some (found.Set s value)
-found_of t (line.Domain name from) = Some (found.Domain name from)
-found_of t (line.Router name domain checking master) = router_found t name domain checking master
-found_of t (line.Host name router guarded from) = host_found t name router guarded from
-found_of t (line.Link a b a_trusts b_trusts) = link_found t a b a_trusts b_trusts
+-- the domain or a router that the line names isn't there
+abbrev pub is_unknown : Topology → Line → Bool
+is_unknown t (line.Set _ _) = false
+is_unknown t (line.Domain _ _) = false
+is_unknown t (line.Router _ domain _ _) = is_none (domain_place domain t.domains)
+is_unknown t (line.Host _ router _ _) = is_none (router_place router t.routers)
+is_unknown t (line.Link a b _ _) = is_none (router_place a t.routers) || is_none (router_place b t.routers)
 
 -- the version byte of an id is 0
 abbrev pub has_version_0 : Id → Bool
@@ -162,12 +142,12 @@ is_no_ad (origin.Given id) = has_version_0 id || has_interface id
 is_no_ad (origin.Seed _ _ interface _) = not (interface == 0)
 
 -- a setting out of its range, an id or an interface that can't be, a link from a router to itself
-abbrev pub is_out_of_range : Found → Bool
-is_out_of_range (found.Set s value) = nat_lt value 1 || nat_lt (most_of s) value
-is_out_of_range (found.Domain _ from) = is_no_ad from
-is_out_of_range (found.Router _) = false
-is_out_of_range (found.Host _ _ _ from) = is_no_eid from
-is_out_of_range (found.Link link) = link.a == link.b
+abbrev pub is_out_of_range : Line → Bool
+is_out_of_range (line.Set s value) = nat_lt value 1 || nat_lt (most_of s) value
+is_out_of_range (line.Domain _ from) = is_no_ad from
+is_out_of_range (line.Router _ _ _ _) = false
+is_out_of_range (line.Host _ _ _ from) = is_no_eid from
+is_out_of_range (line.Link a b _ _) = bytes_eq a b
 
 -- the key that a line gives: that of its seed, where it has one
 abbrev pub key_of : Origin → Key
@@ -179,14 +159,30 @@ abbrev pub id_from : Origin → Id
 id_from (origin.Given id) = id
 id_from (origin.Seed width height interface seed) = id_of_key (public_key_of (key_from seed width height)) interface
 
--- what a line adds, with its id and its key
-abbrev pub made : Found → Entry
-made (found.Set s value) = entry.Set s value
-made (found.Domain name from) = entry.Domain (record { name = name; ad = id_from from; key = key_of from })
-made (found.Router router) = entry.Router router
-made (found.Host name router guarded from) =
-    entry.Part (part.Host (record { name = name; router = router; guarded = guarded; eid = id_from from; key = key_of from }))
-made (found.Link link) = entry.Part (part.Link link)
+-- the id of the domain at a place
+abbrev pub ad_at : ℕ → List Domain → Option Id
+ad_at place domains = option_map (λ domain. domain.ad) (slice_get domains place)
+
+-- the id of the domain at a place where there is one, and else an id of zeros
+abbrev pub ad_or_zeros : ℕ → List Domain → Id
+ad_or_zeros place domains = unwrap_or (ad_at place domains) (record { bytes = replicate 20 0 })
+
+-- a router of the domain at a place
+abbrev pub router_at : ℕ → List Domain → List ℕ → Bool → List ℕ → Router
+router_at place domains name checking master =
+    record { name = name; domain = place; checking = checking; master = master; address = record { ad = ad_or_zeros place domains; eid = id_of_router name } }
+
+-- what a line adds: a domain and a host with the id and the key that the line gives, a router with the place of its
+-- domain, a host and a link with the places of their routers
+abbrev pub entry_of : Topology → Line → Entry
+entry_of t (line.Set s value) = entry.Set s value
+entry_of t (line.Domain name from) = entry.Domain (record { name = name; ad = id_from from; key = key_of from })
+entry_of t (line.Router name domain checking master) =
+    entry.Router (router_at (unwrap_or (domain_place domain t.domains) 0) t.domains name checking master)
+entry_of t (line.Host name router guarded from) =
+    entry.Part (part.Host (record { name = name; router = unwrap_or (router_place router t.routers) 0; guarded = guarded; eid = id_from from; key = key_of from }))
+entry_of t (line.Link a b a_trusts b_trusts) =
+    entry.Part (part.Link (record { a = unwrap_or (router_place a t.routers) 0; b = unwrap_or (router_place b t.routers) 0; a_trusts = a_trusts; b_trusts = b_trusts }))
 
 -- the domain has this id
 abbrev pub has_ad : Id → Domain → Bool
@@ -249,27 +245,15 @@ given_with given (entry.Part _) = given
 abbrev pub draft_with : Draft → Entry → Draft
 draft_with draft e = record { topology = with_entry draft.topology e; given = given_with draft.given e }
 
--- what is made of what was found for a line, unless it is out of range or the twin of another; Unknown where nothing
--- was found
-abbrev pub judged : Topology → Option Found → Result Entry TopoFault
-judged t None = Err fault.Unknown
-judged t (Some f) = if is_out_of_range f then Err fault.Range else if is_twin t (made f) then Err fault.Twin else Ok (made f)
-
--- what a line adds, or its first fault: Many, Twice, Unknown, Range, Twin
-abbrev pub entry_or_fault : Draft → Line → Result Entry TopoFault
-entry_or_fault draft l =
+-- the draft with what a line adds, or the first fault of the line
+abbrev pub with_line : Draft → Line → Result Draft TopoFault
+with_line draft l =
     if is_many draft.topology l then Err fault.Many
     else if is_twice draft l then Err fault.Twice
-    else judged draft.topology (found_of draft.topology l)
-
--- the draft with what a line adds
-abbrev pub with_judged : Draft → Result Entry TopoFault → Result Draft TopoFault
-with_judged draft (Ok e) = Ok (draft_with draft e)
-with_judged draft (Err f) = Err f
-
--- the draft with a line, or the first fault of the line
-abbrev pub with_line : Draft → Line → Result Draft TopoFault
-with_line draft l = with_judged draft (entry_or_fault draft l)
+    else if is_unknown draft.topology l then Err fault.Unknown
+    else if is_out_of_range l then Err fault.Range
+    else if is_twin draft.topology (entry_of draft.topology l) then Err fault.Twin
+    else Ok (draft_with draft (entry_of draft.topology l))
 
 -- there is room for the entry, and a setting's value isn't above its range
 abbrev pub fits : Topology → Entry → Bool

@@ -6,20 +6,25 @@
 //! then the tree of the key is built, and the id is that of the public key.
 #![tactic(auto)]
 
+mod entries;
 mod faults;
+mod judging;
 mod line_reader;
 mod lines;
 mod lists;
 mod reading;
 mod steps;
 mod topology;
+mod words;
 mod writing;
 
+pub use entries::Entry;
 pub use faults::{TopoEnd, TopoFault};
 pub use lines::{Line, Origin, Setting};
+pub use line_reader::read_line;
 pub use lists::{Domains, Parts, Routers};
-pub use reading::read;
-pub use steps::{Draft, Entry, Found};
+pub use reading::{MOST_READ, read};
+pub use steps::Draft;
 pub use topology::{Domain, HostPart, Key, LinkPart, Part, Router, Settings, Topology};
 pub use writing::write;
 
