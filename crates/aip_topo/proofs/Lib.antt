@@ -8,3 +8,4 @@ mod Running
 mod Soundness
 mod Canon
 mod Decided
+mod Said

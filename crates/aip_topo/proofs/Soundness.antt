@@ -62,25 +62,25 @@ IsNew t (entry.Part (part.Host host)) = (count_by is_host t.parts < 1024) × (is
 IsNew t (entry.Part (part.Link _)) = count_by is_link t.parts < 4096
 
 -- a place that was found is one of the list's
-found_within : {A : Type 0} (p : A → Bool) (xs : List A) (k : ℕ) → position p xs ≡ Some k → k < length xs
+pub found_within : {A : Type 0} (p : A → Bool) (xs : List A) (k : ℕ) → position p xs ≡ Some k → k < length xs
 found_within p xs k h =
     let e = cond_some (nat_lt (position_or_len p xs) (length xs)) (position_or_len p xs) k h in
     let below = ltb-true (position_or_len p xs) (length xs) e.0 in
     subst (λ n. n < length xs) e.1 below
 
 -- what isn't none is some
-some_of : {A : Type 0} (o : Option A) → is_none o ≡ false → (x : A) × (o ≡ Some x)
+pub some_of : {A : Type 0} (o : Option A) → is_none o ≡ false → (x : A) × (o ≡ Some x)
 some_of None h = cc h
 some_of (Some x) h = (x, refl)
 
 -- what is known stands at its place
-known_within : {A : Type 0} (p : A → Bool) (xs : List A) → is_none (position p xs) ≡ false → unwrap_or (position p xs) 0 < length xs
+pub known_within : {A : Type 0} (p : A → Bool) (xs : List A) → is_none (position p xs) ≡ false → unwrap_or (position p xs) 0 < length xs
 known_within p xs h =
     let it = some_of (position p xs) h in
     subst (λ o. unwrap_or o 0 < length xs) (sym it.1) (found_within p xs it.0 it.1)
 
 -- the id of a domain that is there
-ad_there : (domains : List Domain) (k : ℕ) → k < length domains → ad_at k domains ≡ Some (ad_or_zeros k domains)
+pub ad_there : (domains : List Domain) (k : ℕ) → k < length domains → ad_at k domains ≡ Some (ad_or_zeros k domains)
 ad_there domains k below =
     let it = there_is domains k below in
     let here : ad_at k domains ≡ Some it.0.ad = ap (option_map (λ (d : Domain). d.ad)) it.1 in
@@ -221,7 +221,7 @@ mapped_more f xs x differ new =
     subst AreDistinct (sym (map-append f xs (x ∷ []))) (added (map f xs) (f x) differ (sym (any_map f (f x) xs) ∙ new))
 
 -- what stood at a place stands there still
-ad_more : (place : ℕ) (domains : List Domain) (domain : Domain) (ad : Id) → ad_at place domains ≡ Some ad → ad_at place (domains ++ domain ∷ []) ≡ Some ad
+pub ad_more : (place : ℕ) (domains : List Domain) (domain : Domain) (ad : Id) → ad_at place domains ≡ Some ad → ad_at place (domains ++ domain ∷ []) ≡ Some ad
 ad_more place domains domain ad h =
     let found = mapped (λ (d : Domain). d.ad) (slice_get domains place) ad h in
     let below = slice_get_within domains place found.0 found.1 in
@@ -354,7 +354,7 @@ line_keeps draft next l fits k h =
     let may = line_meets draft l fits it.met in
     subst (λ (d : Draft). IsSound d.topology) it.gives (sound_with draft.topology (entry_of draft.topology l) k may.0 may.1 it.met.alone)
 
-at_line_ok : (number : ℕ) (r : Result Draft TopoFault) (next : Draft) → at_line number r ≡ Ok next → r ≡ Ok next
+pub at_line_ok : (number : ℕ) (r : Result Draft TopoFault) (next : Draft) → at_line number r ≡ Ok next → r ≡ Ok next
 at_line_ok number (Ok draft) next h = let same : draft ≡ next = cc in ap Ok same
 at_line_ok number (Err f) next h = cc h
 
@@ -373,7 +373,7 @@ text_keeps number ending draft next text k h =
     let clean = past (has_carriage_return text) _ _ next short.1 in
     skipped_keeps (is_skipped text) (with_read number draft (line_in text)) draft next k (read_keeps number draft next text (line_in text) refl k) clean.1
 
-then_ok : (r : Result Draft RefusedLine) (f : Draft → Result Draft RefusedLine) (next : Draft) → then_with r f ≡ Ok next → (draft : Draft) × (r ≡ Ok draft) × (f draft ≡ Ok next)
+pub then_ok : (r : Result Draft RefusedLine) (f : Draft → Result Draft RefusedLine) (next : Draft) → then_with r f ≡ Ok next → (draft : Draft) × (r ≡ Ok draft) × (f draft ≡ Ok next)
 then_ok (Ok draft) f next h = (draft, refl, h)
 then_ok (Err e) f next h = cc h
 

@@ -5,3 +5,4 @@ pub mod LineReading
 pub mod Reading
 pub mod Canonical
 pub mod Sound
+pub mod Meaning

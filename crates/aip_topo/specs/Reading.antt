@@ -2,7 +2,7 @@
 use Rattle.std.specs.Prelude.{◌≡◌, ℕ, ◌+◌, ◌||◌, min, nat_lt, Bool, false, List, [], ◌∷◌, length, replicate, if◌then◌else◌, Option, Some, None, Result, Ok, Err}
 use Rattle.aip_text.specs.Lines.{lines_of, is_skipped, has_carriage_return}
 use Rattle.aip_topo.specs.LineReading.{line_in}
-use Rattle.aip_topo.specs.Steps.{with_line}
+use Rattle.aip_topo.specs.Steps.{default_of, settings_with, with_line}
 use Rattle.aip_topo.specs.declared.faults.TopoFault.{TopoFault}
 use Rattle.aip_topo.specs.declared.faults.TopoFault.TheVariants as fault
 use Rattle.aip_topo.specs.declared.faults.TopoEnd.{TopoEnd}
@@ -14,8 +14,7 @@ use Rattle.aip_topo.specs.declared.topology.Topology.{Topology}
 
 -- the settings where none is set
 abbrev pub default_settings : Settings
-default_settings =
-    record { accept = 600; cache = 64; epoch = 60; filter = 16; log = 128; threshold = 8; wild = 600; wildcache = 8 }
+default_settings = settings_with default_of
 
 -- no line taken yet: the default settings, and nothing else
 abbrev pub empty_draft : Draft

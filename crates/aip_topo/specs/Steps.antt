@@ -48,6 +48,22 @@ most_of setting.Threshold = 4096
 most_of setting.Wild = 4294967295
 most_of setting.Wildcache = 4096
 
+-- the value of each setting where no line sets it
+abbrev pub default_of : Setting → ℕ
+default_of setting.Accept = 600
+default_of setting.Cache = 64
+default_of setting.Epoch = 60
+default_of setting.Filter = 16
+default_of setting.Log = 128
+default_of setting.Threshold = 8
+default_of setting.Wild = 600
+default_of setting.Wildcache = 8
+
+-- the settings with these values
+abbrev pub settings_with : (Setting → ℕ) → Settings
+settings_with value =
+    record { accept = value setting.Accept; cache = value setting.Cache; epoch = value setting.Epoch; filter = value setting.Filter; log = value setting.Log; threshold = value setting.Threshold; wild = value setting.Wild; wildcache = value setting.Wildcache }
+
 -- the settings with this one at this value
 abbrev pub with_setting : Setting → ℕ → Settings → Settings
 with_setting setting.Accept value s = record s { accept = value }
@@ -172,17 +188,31 @@ abbrev pub router_at : ℕ → List Domain → List ℕ → Bool → List ℕ �
 router_at place domains name checking master =
     record { name = name; domain = place; checking = checking; master = master; address = record { ad = ad_or_zeros place domains; eid = id_of_router name } }
 
--- what a line adds: a domain and a host with the id and the key that the line gives, a router with the place of its
--- domain, a host and a link with the places of their routers
+-- a domain of this name, with the id and the key that its line gives
+abbrev pub domain_from : List ℕ → Origin → Domain
+domain_from name from = record { name = name; ad = id_from from; key = key_of from }
+
+-- a router of this name in the domain of that name
+abbrev pub router_from : List Domain → List ℕ → List ℕ → Bool → List ℕ → Router
+router_from domains name domain checking master = router_at (unwrap_or (domain_place domain domains) 0) domains name checking master
+
+-- a host of this name at the router of that name, with the id and the key that its line gives
+abbrev pub host_from : List Router → List ℕ → List ℕ → Bool → Origin → Part
+host_from routers name router guarded from =
+    part.Host (record { name = name; router = unwrap_or (router_place router routers) 0; guarded = guarded; eid = id_from from; key = key_of from })
+
+-- a link of the routers of these names
+abbrev pub link_from : List Router → List ℕ → List ℕ → Bool → Bool → Part
+link_from routers a b a_trusts b_trusts =
+    part.Link (record { a = unwrap_or (router_place a routers) 0; b = unwrap_or (router_place b routers) 0; a_trusts = a_trusts; b_trusts = b_trusts })
+
+-- what a line adds
 abbrev pub entry_of : Topology → Line → Entry
 entry_of t (line.Set s value) = entry.Set s value
-entry_of t (line.Domain name from) = entry.Domain (record { name = name; ad = id_from from; key = key_of from })
-entry_of t (line.Router name domain checking master) =
-    entry.Router (router_at (unwrap_or (domain_place domain t.domains) 0) t.domains name checking master)
-entry_of t (line.Host name router guarded from) =
-    entry.Part (part.Host (record { name = name; router = unwrap_or (router_place router t.routers) 0; guarded = guarded; eid = id_from from; key = key_of from }))
-entry_of t (line.Link a b a_trusts b_trusts) =
-    entry.Part (part.Link (record { a = unwrap_or (router_place a t.routers) 0; b = unwrap_or (router_place b t.routers) 0; a_trusts = a_trusts; b_trusts = b_trusts }))
+entry_of t (line.Domain name from) = entry.Domain (domain_from name from)
+entry_of t (line.Router name domain checking master) = entry.Router (router_from t.domains name domain checking master)
+entry_of t (line.Host name router guarded from) = entry.Part (host_from t.routers name router guarded from)
+entry_of t (line.Link a b a_trusts b_trusts) = entry.Part (link_from t.routers a b a_trusts b_trusts)
 
 -- the domain has this id
 abbrev pub has_ad : Id → Domain → Bool

@@ -1,5 +1,6 @@
 ghost use Rattle.std.specs.Prelude.{◌≡◌, ◌<◌, ◌≤◌, ◌+◌, ℕ, IfOk, IfErr, List, OnOk, length, take};
 ghost use Rattle.aip_text.specs.Lines.{lines_of};
+ghost use Rattle.aip_topo.specs.Meaning.{IsSaid};
 ghost use Rattle.aip_topo.specs.Sound.{IsSound};
 ghost use Rattle.aip_topo.specs.Reading.{Tells, empty_draft, is_long, topology_of, with_lines, with_text};
 
@@ -24,6 +25,7 @@ pub const MOST_READ: usize = LONGEST_TEXT + 1;
 pub fn read(alloc: Global, text: &[u8]) -> Result<Topology, TopoEnd>
     ensures found { IfOk result (λ topology. topology_of text.now ≡ Ok topology) }
     ensures sound { IfOk result IsSound }
+    ensures said { IfOk result (IsSaid text.now) }
     ensures refused { IfErr result (λ end. Tells end (topology_of text.now)) }
     ensures decided { (whole : List ℕ) → text.now ≡ take 1048577 whole → topology_of whole ≡ topology_of text.now }
 {
