@@ -11,7 +11,7 @@ use Rattle.aip_topo.specs.declared.lines.Line.TheVariants as line
 use Rattle.aip_topo.specs.declared.lines.Setting.{Setting}
 use Rattle.aip_topo.specs.declared.steps.Draft.{Draft}
 use Rattle.aip_topo.specs.declared.topology.Topology.{Topology}
-use Rattle.aip_topo.specs.Steps.{draft_with, entry_of, fits, is_many, is_out_of_range, is_twice, is_twin, is_unknown, most_of, with_line}
+use Rattle.aip_topo.specs.Steps.{draft_with, entry_of, fits, is_host, is_link, is_many, is_out_of_range, is_twice, is_twin, is_unknown, most_of, with_line}
 
 -- past a test that refuses
 pub past : {A E : Type 0} (b : Bool) (d : E) (y : Result A E) (x : A) → cond b (Err d) y ≡ Ok x → (b ≡ false) × (y ≡ Ok x)
@@ -61,5 +61,5 @@ pub line_fits : (t : Topology) (l : Line) → is_many t l ≡ false → is_out_o
 line_fits t (line.Set s value) few ranged = set_fits s value ranged
 line_fits t (line.Domain name from) few ranged = more_fits 64 (length t.domains) few
 line_fits t (line.Router name domain checking master) few ranged = more_fits 256 (length t.routers) few
-line_fits t (line.Host name router guarded from) few ranged = refl
-line_fits t (line.Link a b a_trusts b_trusts) few ranged = refl
+line_fits t (line.Host name router guarded from) few ranged = more_fits 1024 (count_by is_host t.parts) few
+line_fits t (line.Link a b a_trusts b_trusts) few ranged = more_fits 4096 (count_by is_link t.parts) few

@@ -6,6 +6,8 @@ use Rattle.std.specs.Str.{bytes_eq}
 use Rattle.aip_addr.specs.Ids.{id_of_key, id_of_router}
 use Rattle.aip_addr.specs.declared.ids.Id.{Id}
 use Rattle.lms_core.specs.Tree.{identifier_of, key_from, public_key_of}
+pub use Rattle.aip_topo.specs.Parts.{is_host, is_link}
+use Rattle.aip_topo.specs.Parts.{has_room}
 use Rattle.aip_topo.specs.declared.faults.TopoFault.{TopoFault}
 use Rattle.aip_topo.specs.declared.faults.TopoFault.TheVariants as fault
 use Rattle.aip_topo.specs.declared.lines.Line.{Line}
@@ -74,16 +76,6 @@ with_setting setting.Log value s = record s { log = value }
 with_setting setting.Threshold value s = record s { threshold = value }
 with_setting setting.Wild value s = record s { wild = value }
 with_setting setting.Wildcache value s = record s { wildcache = value }
-
--- a host, and not a link
-abbrev pub is_host : Part → Bool
-is_host (part.Host _) = true
-is_host (part.Link _) = false
-
--- a link, and not a host
-abbrev pub is_link : Part → Bool
-is_link (part.Host _) = false
-is_link (part.Link _) = true
 
 -- there are already 64 domains, 256 routers, 1024 hosts or 4096 links, of the line's kind
 abbrev pub is_many : Topology → Line → Bool
@@ -290,4 +282,4 @@ abbrev pub fits : Topology → Entry → Bool
 fits t (entry.Set s value) = nat_le value (most_of s)
 fits t (entry.Domain _) = nat_lt (length t.domains) 64
 fits t (entry.Router _) = nat_lt (length t.routers) 256
-fits t (entry.Part _) = true
+fits t (entry.Part p) = has_room t.parts p

@@ -1,42 +1,12 @@
-ghost use Rattle.std.specs.Prelude.{◌≡◌, count_by, length};
+ghost use Rattle.std.specs.Prelude.{◌≡◌};
 ghost use Rattle.std.specs.List.{list_any};
-ghost use Rattle.aip_topo.specs.Steps.{domain_place, is_host, is_link, is_many, is_named, is_no_ad, is_no_eid, is_out_of_range, is_twice, is_unknown, names_domain, names_host, names_router, router_place, was_set};
+ghost use Rattle.aip_topo.specs.Steps.{domain_place, is_many, is_named, is_no_ad, is_no_eid, is_out_of_range, is_twice, is_unknown, names_domain, names_host, names_router, router_place, was_set};
 
 use crate::lines::{Line, Origin, Setting};
 use crate::lists::{Domains, MOST_DOMAINS, MOST_HOSTS, MOST_LINKS, MOST_ROUTERS, Routers};
 use crate::steps::Draft;
 use crate::topology::{Domain, Part, Router, Topology};
 use aip_addr::Name;
-
-fn is_host(part: &Part) -> bool
-    ensures { result ≡ is_host part.now }
-{
-    match part {
-        Part::Host(_) => true,
-        Part::Link(_) => false,
-    }
-}
-
-fn is_link(part: &Part) -> bool
-    ensures { result ≡ is_link part.now }
-{
-    match part {
-        Part::Host(_) => false,
-        Part::Link(_) => true,
-    }
-}
-
-fn count_hosts(parts: &[Part]) -> usize
-    ensures { result ≡ count_by is_host parts.now }
-{
-    parts.iter().filter(|p| is_host(p)).count()
-}
-
-fn count_links(parts: &[Part]) -> usize
-    ensures { result ≡ count_by is_link parts.now }
-{
-    parts.iter().filter(|p| is_link(p)).count()
-}
 
 // Whether there are already as many of the line's kind as there may be.
 pub(crate) fn is_many(topology: &Topology, line: &Line) -> bool
@@ -46,8 +16,8 @@ pub(crate) fn is_many(topology: &Topology, line: &Line) -> bool
         Line::Set { .. } => false,
         Line::Domain { .. } => topology.domains.as_slice().len() >= MOST_DOMAINS,
         Line::Router { .. } => topology.routers.as_slice().len() >= MOST_ROUTERS,
-        Line::Host { .. } => count_hosts(topology.parts.as_slice()) >= MOST_HOSTS,
-        Line::Link { .. } => count_links(topology.parts.as_slice()) >= MOST_LINKS,
+        Line::Host { .. } => topology.parts.hosts() >= MOST_HOSTS,
+        Line::Link { .. } => topology.parts.links() >= MOST_LINKS,
     }
 }
 
