@@ -5,7 +5,9 @@ mod Placing
 mod Keys
 mod Shown
 mod Running
+mod Meeting
 mod Soundness
+mod CanonNodes
 mod Canon
 mod Decided
 mod Said

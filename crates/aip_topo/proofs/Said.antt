@@ -32,7 +32,8 @@ use Rattle.aip_topo.specs.declared.topology.Topology.{Topology}
 use Rattle.aip_topo.proofs.Accepted.{past, taken_accepted}
 use Rattle.aip_topo.proofs.Distinct.{all_more, all_then}
 use Rattle.aip_topo.proofs.LineLaws.{line_found}
-use Rattle.aip_topo.proofs.Soundness.{ad_more, ad_there, at_line_ok, found_within, known_within, some_of, then_ok}
+use Rattle.aip_topo.proofs.Meeting.{ad_there, known_within, some_of}
+use Rattle.aip_topo.proofs.Soundness.{ad_more, at_line_ok, then_ok}
 
 -- ## One more of a list
 

@@ -1,7 +1,7 @@
 -- What a line does to what stands: the faults that keep it out, in their order, and what it adds.
 use Rattle.std.specs.Prelude.{ℕ, ◌==◌, ◌||◌, Bool, true, false, not, nat_lt, nat_le, List, [], ◌∷◌, ◌++◌, length, take, count_by, position, slice_get, slice_set, slice_index, unwrap_or, option_map, replicate, if◌then◌else◌, Option, Some, None, Result, Ok, Err}
 use Rattle.std.specs.List.{list_any}
-use Rattle.std.specs.Option.{is_none}
+use Rattle.std.specs.Option.{is_none, is_some}
 use Rattle.std.specs.Str.{bytes_eq}
 use Rattle.aip_addr.specs.Ids.{id_of_key, id_of_router}
 use Rattle.aip_addr.specs.declared.ids.Id.{Id}
@@ -98,10 +98,18 @@ abbrev pub names_host : List ℕ → Part → Bool
 names_host name (part.Host host) = bytes_eq host.name name
 names_host name (part.Link _) = false
 
+-- the place of the domain that has this name
+abbrev pub domain_place : List ℕ → List Domain → Option ℕ
+domain_place name domains = position (names_domain name) domains
+
+-- the place of the router that has this name
+abbrev pub router_place : List ℕ → List Router → Option ℕ
+router_place name routers = position (names_router name) routers
+
 -- the name is that of a domain, a router or a host
 abbrev pub is_named : List ℕ → Topology → Bool
 is_named name t =
-    list_any (names_domain name) t.domains || (list_any (names_router name) t.routers || list_any (names_host name) t.parts)
+    is_some (domain_place name t.domains) || (is_some (router_place name t.routers) || list_any (names_host name) t.parts)
 
 -- the setting was set before
 abbrev pub was_set : Setting → Draft → Bool
@@ -114,14 +122,6 @@ is_twice draft (line.Domain name _) = is_named name draft.topology
 is_twice draft (line.Router name _ _ _) = is_named name draft.topology
 is_twice draft (line.Host name _ _ _) = is_named name draft.topology
 is_twice draft (line.Link _ _ _ _) = false
-
--- the place of the domain that has this name
-abbrev pub domain_place : List ℕ → List Domain → Option ℕ
-domain_place name domains = position (names_domain name) domains
-
--- the place of the router that has this name
-abbrev pub router_place : List ℕ → List Router → Option ℕ
-router_place name routers = position (names_router name) routers
 
 -- the domain or a router that the line names isn't there
 abbrev pub is_unknown : Topology → Line → Bool

@@ -1,6 +1,6 @@
 ghost use Rattle.std.specs.Prelude.{◌≡◌};
 ghost use Rattle.std.specs.List.{list_any};
-ghost use Rattle.aip_topo.specs.Steps.{domain_place, is_many, is_named, is_no_ad, is_no_eid, is_out_of_range, is_twice, is_unknown, names_domain, names_host, names_router, router_place, was_set};
+ghost use Rattle.aip_topo.specs.Steps.{domain_place, is_many, is_named, is_no_ad, is_no_eid, is_out_of_range, is_twice, is_unknown, names_host, router_place, was_set};
 
 use crate::lines::{Line, Origin, Setting};
 use crate::lists::{Domains, MOST_DOMAINS, MOST_HOSTS, MOST_LINKS, MOST_ROUTERS, Routers};
@@ -18,59 +18,6 @@ pub(crate) fn is_many(topology: &Topology, line: &Line) -> bool
         Line::Router { .. } => topology.routers.as_slice().len() >= MOST_ROUTERS,
         Line::Host { .. } => topology.parts.hosts() >= MOST_HOSTS,
         Line::Link { .. } => topology.parts.links() >= MOST_LINKS,
-    }
-}
-
-fn names_a_domain(domains: &[Domain], name: &Name) -> bool
-    ensures { result ≡ list_any (names_domain name.now) domains.now }
-{
-    domains.iter().any(|d| d.name == *name)
-}
-
-fn names_a_router(routers: &[Router], name: &Name) -> bool
-    ensures { result ≡ list_any (names_router name.now) routers.now }
-{
-    routers.iter().any(|r| r.name == *name)
-}
-
-fn is_host_named(part: &Part, name: &Name) -> bool
-    ensures { result ≡ names_host name.now part.now }
-{
-    match part {
-        Part::Host(host) => host.name == *name,
-        Part::Link(_) => false,
-    }
-}
-
-fn names_a_host(parts: &[Part], name: &Name) -> bool
-    ensures { result ≡ list_any (names_host name.now) parts.now }
-{
-    parts.iter().any(|p| is_host_named(p, name))
-}
-
-fn is_named(topology: &Topology, name: &Name) -> bool
-    ensures { result ≡ is_named name.now topology.now }
-{
-    names_a_domain(topology.domains.as_slice(), name)
-        || names_a_router(topology.routers.as_slice(), name)
-        || names_a_host(topology.parts.as_slice(), name)
-}
-
-fn was_set(draft: &Draft, setting: Setting) -> bool
-    ensures { result ≡ was_set setting draft.now }
-{
-    draft.given[setting.place()]
-}
-
-pub(crate) fn is_twice(draft: &Draft, line: &Line) -> bool
-    ensures { result ≡ is_twice draft.now line.now }
-{
-    match line {
-        Line::Set { setting, .. } => was_set(draft, *setting),
-        Line::Domain { name, .. } => is_named(&draft.topology, name),
-        Line::Router { name, .. } => is_named(&draft.topology, name),
-        Line::Host { name, .. } => is_named(&draft.topology, name),
-        Line::Link { .. } => false,
     }
 }
 
@@ -101,6 +48,47 @@ pub(crate) fn router_place(routers: &Routers, name: &Name) -> Option<u16>
     match place_of_router(routers.as_slice(), name) {
         Some(place) => Some(place as u16),
         None => None,
+    }
+}
+
+fn is_host_named(part: &Part, name: &Name) -> bool
+    ensures { result ≡ names_host name.now part.now }
+{
+    match part {
+        Part::Host(host) => host.name == *name,
+        Part::Link(_) => false,
+    }
+}
+
+fn names_a_host(parts: &[Part], name: &Name) -> bool
+    ensures { result ≡ list_any (names_host name.now) parts.now }
+{
+    parts.iter().any(|p| is_host_named(p, name))
+}
+
+fn is_named(topology: &Topology, name: &Name) -> bool
+    ensures { result ≡ is_named name.now topology.now }
+{
+    domain_place(&topology.domains, name).is_some()
+        || router_place(&topology.routers, name).is_some()
+        || names_a_host(topology.parts.as_slice(), name)
+}
+
+fn was_set(draft: &Draft, setting: Setting) -> bool
+    ensures { result ≡ was_set setting draft.now }
+{
+    draft.given[setting.place()]
+}
+
+pub(crate) fn is_twice(draft: &Draft, line: &Line) -> bool
+    ensures { result ≡ is_twice draft.now line.now }
+{
+    match line {
+        Line::Set { setting, .. } => was_set(draft, *setting),
+        Line::Domain { name, .. } => is_named(&draft.topology, name),
+        Line::Router { name, .. } => is_named(&draft.topology, name),
+        Line::Host { name, .. } => is_named(&draft.topology, name),
+        Line::Link { .. } => false,
     }
 }
 
