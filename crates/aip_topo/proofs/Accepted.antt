@@ -1,10 +1,8 @@
 -- What a line that is taken meets.
-use Rattle.std.proofs.Common.{◌≡◌, ℕ, Bool, true, false, cond, ◌<◌, nat_lt, nat_le, length, IsTrue, Option, Some, None, Result, Ok, Err, refl, sym, ap, subst, arith, ◌∙◌}
+use Rattle.std.proofs.Common.{◌≡◌, ℕ, Bool, true, false, cond, nat_lt, nat_le, length, IsTrue, Result, Ok, Err, refl, arith, ◌∙◌}
 use Rattle.std.specs.Prelude.{count_by}
-use Rattle.std.specs.Option.{is_none}
 use Rattle.std.proofs.lemmas.Bool.{cond-false}
 use Rattle.std.proofs.lemmas.Bool.Decides.{nat_tests}
-use Rattle.aip_topo.specs.declared.faults.TopoFault.{TopoFault}
 use Rattle.aip_topo.specs.declared.faults.TopoFault.TheVariants as fault
 use Rattle.aip_topo.specs.declared.lines.Line.{Line}
 use Rattle.aip_topo.specs.declared.lines.Line.TheVariants as line

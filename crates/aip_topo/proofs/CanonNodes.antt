@@ -1,25 +1,19 @@
 -- The settings, domains and routers of a sound topology are taken, line by line.
-use Rattle.std.proofs.Common.{◌≡◌, ℕ, suc, ◌+◌, ◌*◌, ◌^◌, ◌<◌, ◌≤◌, ◌==◌, eq-eqb, Bool, true, false, cond, ◌||◌, List, [], ◌∷◌, ◌++◌, length, map, nat_lt, take, replicate, Option, Some, Result, Ok, Err, IfOk, refl, sym, ap, subst, ◌∙◌, arith, lit≤, lit<, length-append, append_assoc, append-nil}
-use Rattle.std.specs.Prelude.{count_by, slice_get, unwrap_or}
+use Rattle.std.proofs.Common.{◌≡◌, ℕ, ◌^◌, ◌<◌, ◌≤◌, Bool, true, false, ◌||◌, List, [], ◌∷◌, ◌++◌, length, map, nat_lt, replicate, Option, Some, refl, sym, ap, subst, ◌∙◌, arith, lit≤, lit<, length-append, append_assoc, append-nil}
+use Rattle.std.specs.Prelude.{slice_get, unwrap_or}
 use Rattle.std.specs.List.{list_any, AllByRecursion}
 use Rattle.std.specs.Option.{is_none, option_map}
 use Rattle.std.specs.Str.{bytes_eq}
-use Rattle.std.specs.declared.alloc.AllocError.{AllocError}
-use Rattle.std.proofs.lemmas.Bool.{both_ways, false_from_ne_true, ltb-false, lt-leb, or_from, or_parts}
-use Rattle.std.proofs.lemmas.Option.{same_Some}
-use Rattle.std.proofs.lemmas.Slice.Eq.{bytes_eq-Decides}
+use Rattle.std.proofs.lemmas.Bool.{ltb-false, lt-leb, or_from, or_parts}
 use Rattle.std.proofs.lemmas.List.{map-append}
 use Rattle.std.proofs.lemmas.List.Folds.{list_any-append}
-use Rattle.std.proofs.lemmas.List.Sums.{sum_by-append}
 use Rattle.aip_addr.specs.Ids.{id_of_router}
 use Rattle.aip_addr.specs.Naming.{IsName}
 use Rattle.aip_addr.specs.declared.ids.Id.{Id}
-use Rattle.aip_text.specs.Lines.{lines_of}
-use Rattle.aip_topo.specs.Canonical.{ad_origin, canonical_text, domain_line, domain_name, eid_origin, lines_text, part_line, router_line, router_name, settings_text, value_line, values_of}
-use Rattle.aip_topo.specs.Reading.{RefusedLine, empty_draft, finished, topology_of, with_lines}
-use Rattle.aip_topo.specs.Sound.{AreDistinct, IsDomain, IsInRange, IsPartOf, IsRouterOf, IsSound, domain_identifiers, host_identifiers, host_key_ids, host_names, identifiers_in}
-use Rattle.aip_topo.specs.Steps.{ad_or_zeros, domain_place, has_ad, has_eid, has_key_id, id_from, is_host, is_key_taken, is_link, is_twin, key_of, most_of, names_domain, names_host, names_router, router_place, was_set}
-use Rattle.aip_topo.specs.declared.lines.Line.{Line}
+use Rattle.aip_topo.specs.Canonical.{ad_origin, domain_line, domain_name, router_line, value_line, values_of}
+use Rattle.aip_topo.specs.Reading.{empty_draft}
+use Rattle.aip_topo.specs.Sound.{AreDistinct, IsDomain, IsInRange, IsRouterOf, IsSound, domain_identifiers, host_identifiers, host_names, identifiers_in}
+use Rattle.aip_topo.specs.Steps.{ad_or_zeros, domain_place, has_ad, has_eid, id_from, is_key_taken, is_twin, key_of, most_of, names_domain, names_router, was_set}
 use Rattle.aip_topo.specs.declared.lines.Line.TheVariants as form
 use Rattle.aip_topo.specs.declared.lines.Setting.{Setting}
 use Rattle.aip_topo.specs.declared.lines.Setting.TheVariants as setting
@@ -27,17 +21,14 @@ use Rattle.aip_topo.specs.declared.steps.Draft.{Draft}
 use Rattle.aip_topo.specs.declared.entries.Entry.{Entry}
 use Rattle.aip_topo.specs.declared.entries.Entry.TheVariants as entry
 use Rattle.aip_topo.specs.declared.topology.Domain.{Domain}
-use Rattle.aip_topo.specs.declared.topology.HostPart.{HostPart}
 use Rattle.aip_topo.specs.declared.topology.Key.{Key}
-use Rattle.aip_topo.specs.declared.topology.LinkPart.{LinkPart}
 use Rattle.aip_topo.specs.declared.topology.Part.{Part}
-use Rattle.aip_topo.specs.declared.topology.Part.TheVariants as part
 use Rattle.aip_topo.specs.declared.topology.Router.{Router}
 use Rattle.aip_topo.specs.declared.topology.Settings.{Settings}
 use Rattle.aip_topo.specs.declared.topology.Topology.{Topology}
-use Rattle.aip_topo.proofs.Keys.{ad_again, ad_fits, ad_key_again, ad_ranged, domain_identifiers_split, eid_again, eid_fits, eid_key_again, eid_ranged, host_identifiers_split, key_alone}
-use Rattle.aip_topo.proofs.Placing.{all_at, all_middle, back_distinct, before_middle, front_distinct, place_again, there_is}
-use Rattle.aip_topo.proofs.Running.{Along, Reaches, Taken, after, along_short, reach_all, reach_then}
+use Rattle.aip_topo.proofs.Keys.{ad_again, ad_fits, ad_key_again, ad_ranged, domain_identifiers_split, key_alone}
+use Rattle.aip_topo.proofs.Placing.{all_at, all_middle, before_middle, front_distinct, place_again}
+use Rattle.aip_topo.proofs.Running.{Along, Taken, after}
 use Rattle.aip_topo.proofs.Meeting.{named_any}
 use Rattle.aip_topo.proofs.Soundness.{any_map, mapped}
 

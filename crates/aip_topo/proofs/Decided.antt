@@ -1,5 +1,5 @@
 -- A text is decided by its first 1,048,577 bytes: the line that the last of them is of, or ends, is refused.
-use Rattle.std.proofs.Common.{◌≡◌, ℕ, suc, ◌+◌, ◌<◌, ◌≤◌, ◌==◌, ◌&&◌, ◌||◌, Bool, true, false, not, min, nat_lt, List, [], ◌∷◌, ◌++◌, length, take, drop, Result, Ok, Err, refl, sym, ap, subst, ◌∙◌, arith, lit≤, length-append, append_assoc, append-nil}
+use Rattle.std.proofs.Common.{◌≡◌, ℕ, suc, ◌+◌, ◌<◌, ◌≤◌, ◌==◌, ◌&&◌, ◌||◌, Bool, true, false, not, min, nat_lt, List, [], ◌∷◌, ◌++◌, length, take, drop, Result, Ok, Err, refl, sym, ap, subst, ◌∙◌, arith, lit≤, length-append, append_assoc}
 use Rattle.std.specs.List.{onto_first}
 use Rattle.std.proofs.lemmas.Bool.{and_parts, cond-false, cond-true, eqb-true, lt-ltb, ltb-false, ltb-true, not-true}
 use Rattle.std.proofs.lemmas.List.{length-take-le, take-append-drop, take_all}
@@ -101,7 +101,7 @@ byte_decides total b bs enough more false e number start draft w rest h some siz
 decides : (total : ℕ) → 1048577 ≤ total → (q : List ℕ) → Decides total q
 decides total enough [] number start draft w rest h some size =
     stopped total number start draft w rest h (omega (arith, some)) (omega (arith, size)) enough
-    ∙ sym (stopped 1048577 number start draft w [] h (omega (arith, some)) (omega (arith, size)) (lit≤ tt) )
+    ∙ sym (stopped 1048577 number start draft w [] h (omega (arith, some)) (omega (arith, size)) (lit≤ tt))
 decides total enough (b ∷ bs) number start draft w rest h some size = byte_decides total b bs enough (decides total enough bs) (b == 10) refl number start draft w rest h some size
 
 -- a text with more bytes gives what its first bytes give

@@ -1,18 +1,16 @@
 -- Lines and their spelling: what is read is spelled so, and what is spelled so is read.
-use Rattle.std.proofs.Common.{◌≡◌, ℕ, Bool, true, false, cond, List, [], ◌∷◌, ◌++◌, Option, Some, None, refl, sym, ap, subst, ◌∙◌}
+use Rattle.std.proofs.Common.{◌≡◌, ℕ, true, false, List, Option, Some, None, refl, sym, ap, subst, ◌∙◌}
 use Rattle.std.specs.Prelude.{IfSome, codes, decimal, ⊤}
 use Rattle.std.specs.Option.{option_map}
-use Rattle.std.proofs.lemmas.Option.{cond_some, none-some, same_Some}
+use Rattle.std.proofs.lemmas.Option.{none-some, same_Some}
 use Rattle.hex.specs.Hex.{encode_lower}
-use Rattle.aip_addr.specs.Naming.{IsName, is_name}
+use Rattle.aip_addr.specs.Naming.{IsName}
 use Rattle.aip_addr.specs.declared.ids.Id.{Id}
 use Rattle.aip_text.specs.Fields.{id_of, name_of, named, ◌>>=◌}
 use Rattle.aip_text.specs.Words.{cut, hex_sized, lacks, number_of}
 use Rattle.aip_text.proofs.HexWords.{hex_sized_again, hex_sized_found}
-use Rattle.aip_text.proofs.Lacking.{lacks-decimal, lacks-name}
 use Rattle.aip_text.proofs.FieldLaws.{name_field, number_field}
 use Rattle.aip_text.proofs.LineForms.{Field, bind_at, bind_some, branch, named_found}
-use Rattle.aip_text.proofs.Numbers.{number_again, number_found}
 use Rattle.aip_text.proofs.Texts.{cut_at_again, cut_at_found}
 use Rattle.lmots_core.specs.declared.parameters.Width.TheVariants.{W1, W2, W4, W8}
 use Rattle.lms_core.specs.declared.height.Height.TheVariants.{H5, H10}

@@ -2,8 +2,8 @@
 use Rattle.std.proofs.Common.{◌≡◌, ℕ, ◌+◌, ◌<◌, ◌==◌, Bool, true, false, cond, not, nat_lt, List, [], ◌∷◌, ◌++◌, length, map, Option, Some, None, Result, Ok, Err, IfOk, refl, sym, ap, subst, ◌∙◌, arith, length-append, append_assoc, append-nil}
 use Rattle.std.specs.Prelude.{flat_map, position, unwrap_or, replicate}
 use Rattle.std.specs.List.{AllByRecursion, position_or_len}
-use Rattle.std.specs.Option.{is_none, option_map}
-use Rattle.std.proofs.lemmas.Bool.{cond-false, cond-true, eqb-true, false_from_ne_true, lt-ltb, ltb-true, not-true, or_from, or_parts}
+use Rattle.std.specs.Option.{is_none}
+use Rattle.std.proofs.lemmas.Bool.{cond-false, cond-true, eqb-true, false_from_ne_true, lt-ltb, ltb-true, or_from, or_parts}
 use Rattle.std.proofs.lemmas.Grind.{flat_map-append}
 use Rattle.std.proofs.lemmas.List.Folds.{position_or_len_push}
 use Rattle.std.proofs.lemmas.Option.{cond_some}
@@ -12,9 +12,9 @@ use Rattle.aip_addr.specs.declared.ids.Id.{Id}
 use Rattle.aip_text.specs.Lines.{has_carriage_return, is_skipped, lines_of}
 use Rattle.aip_topo.specs.LineReading.{line_in}
 use Rattle.aip_topo.specs.Lines.{IsLine, line_text}
-use Rattle.aip_topo.specs.Meaning.{IsSaid, domain_by, domains_said, part_by, parts_said, router_by, routers_said, saying, settings_said, topology_said, value_behind, value_by}
-use Rattle.aip_topo.specs.Reading.{RefusedLine, empty_draft, finished, is_long, then_with, topology_of, with_lines, with_read, with_text}
-use Rattle.aip_topo.specs.Steps.{ad_at, ad_or_zeros, default_of, domain_from, domain_place, entry_of, id_from, is_unknown, key_of, names_domain, names_router, router_from, router_place, settings_with, with_entry, with_line, with_setting}
+use Rattle.aip_topo.specs.Meaning.{IsSaid, domain_by, domains_said, part_by, router_by, saying, settings_said, topology_said, value_behind, value_by}
+use Rattle.aip_topo.specs.Reading.{RefusedLine, empty_draft, finished, is_long, topology_of, with_lines, with_read, with_text}
+use Rattle.aip_topo.specs.Steps.{ad_or_zeros, default_of, domain_from, domain_place, entry_of, id_from, is_unknown, key_of, names_domain, names_router, router_from, router_place, settings_with, with_entry, with_line, with_setting}
 use Rattle.aip_topo.specs.declared.entries.Entry.{Entry}
 use Rattle.aip_topo.specs.declared.entries.Entry.TheVariants as entry
 use Rattle.aip_topo.specs.declared.faults.TopoEnd.{TopoEnd}
@@ -237,18 +237,18 @@ says_on total number start before draft next [] k h =
 says_on total number start before draft next (text ∷ texts) k h =
     let step = then_ok _ _ next h in
     text_cases number _ draft step.0 text (SaysOn before (text ∷ texts) next) step.1
-    (λ skip same. 
-      let rest = says_on total (number + 1) (start + length text + 1) before step.0 next texts (subst (Follows before) same k) step.2 in
-      record { lines = rest.lines; formed = rest.formed; spelled = rest.spelled ∙ sym (cond-false (not (is_skipped text)) _ _ (ap not skip)); same = rest.same })
+    (λ skip same.
+    let rest = says_on total (number + 1) (start + length text + 1) before step.0 next texts (subst (Follows before) same k) step.2 in
+    record { lines = rest.lines; formed = rest.formed; spelled = rest.spelled ∙ sym (cond-false (not (is_skipped text)) _ _ (ap not skip)); same = rest.same })
     (λ l seen says taken.
-      let rest = says_on total (number + 1) (start + length text + 1) (before ++ l ∷ []) step.0 next texts (follows_more before l draft step.0 k taken) step.2 in
-      let read = line_found text l says in
-      record {
-        lines = l ∷ rest.lines;
-        formed = (read.0, rest.formed);
-        spelled = ap (λ ys. line_text l ∷ ys) rest.spelled ∙ ap (λ t. t ∷ saying texts) (sym read.1) ∙ sym (cond-true (not (is_skipped text)) _ _ (ap not seen));
-        same = ap topology_said (sym (append_assoc before (l ∷ []) rest.lines)) ∙ rest.same;
-      })
+    let rest = says_on total (number + 1) (start + length text + 1) (before ++ l ∷ []) step.0 next texts (follows_more before l draft step.0 k taken) step.2 in
+    let read = line_found text l says in
+    record {
+      lines = l ∷ rest.lines;
+      formed = (read.0, rest.formed);
+      spelled = ap (λ ys. line_text l ∷ ys) rest.spelled ∙ ap (λ t. t ∷ saying texts) (sym read.1) ∙ sym (cond-true (not (is_skipped text)) _ _ (ap not seen));
+      same = ap topology_said (sym (append_assoc before (l ∷ []) rest.lines)) ∙ rest.same;
+    })
 
 finished_ok : (r : Result Draft RefusedLine) (t : Topology) → finished r ≡ Ok t → (draft : Draft) × (r ≡ Ok draft) × (draft.topology ≡ t)
 finished_ok (Ok draft) t h = let same : draft.topology ≡ t = cc in (draft, refl, same)

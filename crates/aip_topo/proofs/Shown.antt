@@ -15,7 +15,7 @@ use Rattle.lmots_core.specs.declared.parameters.Width.{Width}
 use Rattle.lmots_core.specs.declared.parameters.Width.TheVariants as width
 use Rattle.lms_core.specs.declared.height.Height.{Height}
 use Rattle.lms_core.specs.declared.height.Height.TheVariants as height
-use Rattle.aip_topo.specs.Lines.{IsAdOrigin, IsEidOrigin, IsLine, IsNumber, IsSized, ad_words, eid_words, guard_word, height_word, kind_word, line_text, setting_word, trust_word, width_word, ◌␣◌}
+use Rattle.aip_topo.specs.Lines.{IsAdOrigin, IsEidOrigin, IsLine, IsSized, ad_words, eid_words, guard_word, height_word, kind_word, line_text, setting_word, trust_word, width_word, ◌␣◌}
 use Rattle.aip_topo.specs.declared.lines.Line.{Line}
 use Rattle.aip_topo.specs.declared.lines.Line.TheVariants as line
 use Rattle.aip_topo.specs.declared.lines.Origin.{Origin}

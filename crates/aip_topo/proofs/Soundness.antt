@@ -1,18 +1,16 @@
 -- Every topology that is read is sound.
-use Rattle.std.proofs.Common.{◌≡◌, ℕ, suc, ◌+◌, ◌<◌, ◌≤◌, ◌==◌, Bool, true, false, cond, not, ◌||◌, nat_lt, List, [], ◌∷◌, ◌++◌, length, map, take, Option, Some, None, Result, Ok, Err, IfOk, refl, sym, ap, subst, ◌∙◌, arith, length-append, append_assoc}
-use Rattle.std.specs.Prelude.{count_by, get_or, replicate, slice_get, position, unwrap_or}
+use Rattle.std.proofs.Common.{◌≡◌, ℕ, ◌+◌, ◌<◌, ◌≤◌, Bool, true, false, cond, ◌||◌, List, [], ◌∷◌, ◌++◌, length, map, take, Option, Some, None, Result, Ok, Err, IfOk, refl, sym, ap, subst, ◌∙◌, arith, length-append, append_assoc}
+use Rattle.std.specs.Prelude.{count_by, get_or, slice_get}
 use Rattle.std.proofs.Common.{lit≤}
 use Rattle.std.proofs.Math.ListN.{get_or-append}
 use Rattle.std.specs.Str.{bytes_eq}
-use Rattle.std.specs.List.{list_any, AllByRecursion, position_or_len}
-use Rattle.std.specs.Option.{is_none, is_some, option_map}
-use Rattle.std.proofs.lemmas.Bool.{both_ways, eqb-true, false_from_ne_true, le-ltb, leb-false, lt-ltb, ltb-false, ltb-true, or_from, or_parts}
+use Rattle.std.specs.List.{list_any, AllByRecursion}
+use Rattle.std.specs.Option.{option_map}
+use Rattle.std.proofs.lemmas.Bool.{or_from, or_parts}
 use Rattle.std.proofs.lemmas.List.{map-append}
-use Rattle.std.proofs.lemmas.List.Quantifiers.{position-Some}
-use Rattle.std.proofs.lemmas.Slice.Eq.{bytes_eq-Decides}
 use Rattle.std.proofs.lemmas.List.Folds.{list_any-append}
 use Rattle.std.proofs.lemmas.List.Sums.{sum_by-append}
-use Rattle.std.proofs.lemmas.Option.{cond_some, get_or_from_slice_get, none-some, same_Some, slice_get-get_or, slice_get_within}
+use Rattle.std.proofs.lemmas.Option.{get_or_from_slice_get, none-some, same_Some, slice_get-get_or, slice_get_within}
 use Rattle.aip_addr.specs.declared.ids.Id.{Id}
 use Rattle.aip_text.specs.Lines.{lines_of, is_skipped, has_carriage_return}
 use Rattle.aip_topo.specs.Canonical.{values_of}
@@ -20,11 +18,10 @@ use Rattle.aip_topo.specs.LineReading.{line_in}
 use Rattle.aip_topo.specs.Lines.{IsLine}
 use Rattle.aip_topo.specs.Reading.{RefusedLine, at_line, empty_draft, finished, is_long, then_with, topology_of, with_lines, with_read, with_text}
 use Rattle.aip_topo.specs.Sound.{AreDistinct, IsDomain, IsInRange, IsPartOf, IsRouterOf, IsSound, has_text, host_key_ids, host_names, domain_identifiers, names_of}
-use Rattle.aip_topo.specs.Steps.{ad_at, ad_or_zeros, domain_place, entry_of, has_ad, has_key_id, is_host, is_key_taken, is_link, is_named, is_out_of_range, is_twin, names_domain, names_host, names_router, router_place, with_entry, with_line, with_setting}
+use Rattle.aip_topo.specs.Steps.{ad_at, entry_of, has_ad, has_key_id, is_host, is_key_taken, is_link, is_named, is_twin, names_domain, names_host, names_router, with_entry, with_line, with_setting}
 use Rattle.aip_topo.specs.declared.faults.TopoEnd.{TopoEnd}
 use Rattle.aip_topo.specs.declared.faults.TopoFault.{TopoFault}
 use Rattle.aip_topo.specs.declared.lines.Line.{Line}
-use Rattle.aip_topo.specs.declared.lines.Line.TheVariants as line
 use Rattle.aip_topo.specs.declared.lines.Setting.{Setting}
 use Rattle.aip_topo.specs.declared.lines.Setting.TheVariants as setting
 use Rattle.aip_topo.specs.declared.steps.Draft.{Draft}
@@ -39,10 +36,9 @@ use Rattle.aip_topo.specs.declared.topology.Router.{Router}
 use Rattle.aip_topo.specs.declared.topology.Settings.{Settings}
 use Rattle.aip_topo.specs.declared.topology.Topology.{Topology}
 use Rattle.aip_topo.proofs.Distinct.{added, all_more, all_then, inserted}
-use Rattle.aip_topo.proofs.Accepted.{IsAccepted, past, taken_accepted}
-use Rattle.aip_topo.proofs.Keys.{ad_may, ad_sized, eid_sized, domain_more, host_identifiers-link, host_more, origin_alone, origin_id, origin_sized, origin_version}
+use Rattle.aip_topo.proofs.Accepted.{past, taken_accepted}
+use Rattle.aip_topo.proofs.Keys.{domain_more, host_identifiers-link, host_more}
 use Rattle.aip_topo.proofs.LineLaws.{line_found}
-use Rattle.aip_topo.proofs.Placing.{there_is}
 use Rattle.aip_topo.proofs.Meeting.{IsNew, Stands, line_meets, named_any}
 
 -- ## One more

@@ -11,8 +11,6 @@ use Rattle.aip_topo.specs.declared.lines.Setting.TheVariants as setting
 use Rattle.aip_topo.specs.declared.topology.Settings.{Settings}
 use Rattle.aip_topo.specs.declared.topology.Domain.{Domain}
 use Rattle.aip_topo.specs.declared.topology.Router.{Router}
-use Rattle.aip_topo.specs.declared.topology.HostPart.{HostPart}
-use Rattle.aip_topo.specs.declared.topology.LinkPart.{LinkPart}
 use Rattle.aip_topo.specs.declared.topology.Part.{Part}
 use Rattle.aip_topo.specs.declared.topology.Part.TheVariants as part
 use Rattle.aip_topo.specs.declared.topology.Key.{Key}

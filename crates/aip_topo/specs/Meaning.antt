@@ -1,5 +1,5 @@
 -- The topology that lines give: each line stands for itself, and names are looked up among all lines.
-use Rattle.std.specs.Prelude.{◌≡◌, ℕ, ◌==◌, not, List, [], ◌∷◌, ◌++◌, map, flat_map, if◌then◌else◌}
+use Rattle.std.specs.Prelude.{◌≡◌, ℕ, ◌==◌, not, List, [], ◌∷◌, map, flat_map, if◌then◌else◌}
 use Rattle.std.specs.List.{AllByRecursion, filter}
 use Rattle.aip_text.specs.Lines.{is_skipped, lines_of}
 use Rattle.aip_topo.specs.Lines.{IsLine, line_text}

@@ -126,13 +126,7 @@ pub(crate) fn entry_of(alloc: Global, topology: &Topology, line: &Line) -> Resul
             domain,
             checking,
             master,
-        } => Ok(Entry::Router(router_of(
-            &topology.domains,
-            name,
-            domain,
-            *checking,
-            master,
-        ))),
+        } => Ok(Entry::Router(router_of(&topology.domains, name, domain, *checking, master))),
         Line::Host {
             name,
             router,

@@ -201,12 +201,34 @@ fn lines_that_are_too_long(rt: HostRuntime) -> Result<(), Fail> {
 #[test]
 fn lines_have_one_spelling(rt: HostRuntime) -> Result<(), Fail> {
     let link = read_line(b"link r s trusted checked");
-    assert!(rt; matches!(link, Some(Line::Link { a_trusts: true, b_trusts: false, .. })));
+    assert!(rt;
+        matches!(
+            link,
+            Some(Line::Link {
+                a_trusts: true,
+                b_trusts: false,
+                ..
+            })
+        )
+    );
     assert!(rt; read_line(b"link r s trusted checked x").is_none());
     assert!(rt; read_line(b"link r s trusted  checked").is_none());
-    let seed = b"domain d seed W8 H10 3131313131313131313131313131313131313131313131313131313131313131";
-    assert!(rt; matches!(read_line(seed), Some(Line::Domain { origin: Origin::Seed { width: Width::W8, .. }, .. })));
-    let wide = b"domain d seed 16 H10 3131313131313131313131313131313131313131313131313131313131313131";
+    let seed =
+        b"domain d seed W8 H10 3131313131313131313131313131313131313131313131313131313131313131";
+    assert!(rt;
+        matches!(
+            read_line(seed),
+            Some(Line::Domain {
+                origin: Origin::Seed {
+                    width: Width::W8,
+                    ..
+                },
+                ..
+            })
+        )
+    );
+    let wide =
+        b"domain d seed 16 H10 3131313131313131313131313131313131313131313131313131313131313131";
     assert!(rt; read_line(wide).is_none());
     Ok(())
 }
