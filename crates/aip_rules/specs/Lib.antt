@@ -1,6 +1,7 @@
 pub mod State
 pub mod Nodes
 pub mod Routes
+pub mod Reaction
 pub mod Router
 pub mod Host
 pub mod Step
