@@ -1,7 +1,7 @@
 use Rattle.std.proofs.Common.{◌≡◌, ◌++◌, drop}
 use Rattle.std.specs.Prelude.{flat_map}
 use Rattle.aip_top.specs.Addresses.{ad_line}
-use Rattle.aip_top.proofs.addresses.push_domains.Given as goal
+use Rattle.aip_top.proofs.address.push_domains.Given as goal
 
 -- what is written with what is left is the whole
 abbrev pub invariant-loop-domain : goal.invariant-loop-domain
