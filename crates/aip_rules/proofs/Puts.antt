@@ -28,7 +28,7 @@ use Rattle.aip_rules.specs.declared.StepFault.TheVariants as fault
 use Rattle.aip_rules.specs.State.{flight_in, flight_at, flight_count, is_down, is_fall_of, now_of, input_count}
 use Rattle.aip_rules.specs.Nodes.{seats_of, seat_named, router_named, address_named, is_same_address, has_key, neighbours_of, links_of, target_at}
 use Rattle.aip_rules.specs.Routes.{port_to}
-use Rattle.aip_rules.specs.Reaction.{nothing, dropped, puts, happens, put_event, numbered, events_on}
+use Rattle.aip_rules.specs.Reaction.{nothing, dropped, puts, happens, put_event, numbered, events_on, in_put}
 use Rattle.aip_rules.specs.Router.{Arrival, one_hop_less, forwarded, passed, frame_at_router, taken_at_router}
 use Rattle.aip_rules.specs.Host.{sent_frame, handed_down, put_by, kind_at_host, taken_at_host, at_host}
 use Rattle.aip_rules.specs.Step.{most_bytes, most_inputs, can_be_put, refused_if, ticked, sent, put_raw, arrives_at_router, arrives_at_port, arrives_at_seat, arrives, delivered, injected_at_port, injected_at_host, injected, relinked, is_named_frame, shut_off, restarted, stop_armed, outcome_of, reaction_of, events_of, step_of}
@@ -238,11 +238,6 @@ outcome_modest topo tr (Mend link) sound = relinked_modest topo link
 outcome_modest topo tr (Shutoff host flight ttl) sound = shut_modest topo (seat_named (seats_of topo) host) (flight_at tr flight) ttl
 outcome_modest topo tr (Restart node) sound = restarted_modest (address_named topo node)
 outcome_modest topo tr (Stop host call byte) sound = armed_modest topo (seat_named (seats_of topo) host) call byte
-
--- the flight that a reaction puts, if it puts one
-abbrev pub in_put : Option Flight → List Flight
-in_put None = []
-in_put (Some flight) = flight ∷ []
 
 -- the flights that calm events with a put behind them put
 pub put_calm : (events : List Event) (number : ℕ) (put : Option Flight) → AreCalm events → flights_put (events ++ put_event number put) ≡ in_put put
