@@ -6,3 +6,4 @@ pub mod Router
 pub mod Host
 pub mod Step
 pub mod Texts
+pub mod Laws

@@ -41,3 +41,8 @@ numbered number reaction = reaction.events ++ put_event number reaction.put
 -- the events of a reaction on a trace: a flight has the next number
 abbrev pub events_on : List Entry → Reaction → List Event
 events_on tr reaction = numbered (flight_count tr) reaction
+
+-- the flight that a reaction puts, if it puts one
+abbrev pub in_put : Option Flight → List Flight
+in_put None = []
+in_put (Some flight) = flight ∷ []
