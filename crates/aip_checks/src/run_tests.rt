@@ -44,7 +44,7 @@ fn run_in(
     Ok((status, core, sink))
 }
 
-fn pieces(most: usize, failing: u64) -> Pieces
+fn in_pieces(most: usize, failing: u64) -> Pieces
     ensures { result.most ≡ most }
 {
     Pieces { most, failing }
@@ -52,7 +52,7 @@ fn pieces(most: usize, failing: u64) -> Pieces
 
 #[test]
 fn bytes_come_and_go_one_by_one(rt: HostRuntime) -> Result<(), Fail> {
-    let (status, _, sink) = run_in(rt.alloc(), PACKETS, pieces(1, 0), pieces(1, 0))?;
+    let (status, _, sink) = run_in(rt.alloc(), PACKETS, in_pieces(1, 0), in_pieces(1, 0))?;
     assert_eq!(rt; status, Status::Done);
     assert_eq!(rt; sink.taken(), PACKETS_TRACE);
     Ok(())
@@ -61,7 +61,7 @@ fn bytes_come_and_go_one_by_one(rt: HostRuntime) -> Result<(), Fail> {
 // The topology takes five reads, and the schedule one. The next read of it would give its end.
 #[test]
 fn a_step_is_written_before_the_next_line_is_read(rt: HostRuntime) -> Result<(), Fail> {
-    let (status, core, sink) = run_in(rt.alloc(), SCHEDULE, pieces(64, 7), pieces(4096, 0))?;
+    let (status, core, sink) = run_in(rt.alloc(), SCHEDULE, in_pieces(64, 7), in_pieces(4096, 0))?;
     assert_eq!(rt; status, Status::ReadFault);
     assert_eq!(rt; sink.taken(), TRACE);
     assert!(rt; core.is_none());
@@ -70,7 +70,7 @@ fn a_step_is_written_before_the_next_line_is_read(rt: HostRuntime) -> Result<(),
 
 #[test]
 fn the_core_of_a_run_comes_back(rt: HostRuntime) -> Result<(), Fail> {
-    let (_, core, _) = run_in(rt.alloc(), SCHEDULE, pieces(64, 0), pieces(4096, 0))?;
+    let (_, core, _) = run_in(rt.alloc(), SCHEDULE, in_pieces(64, 0), in_pieces(4096, 0))?;
     let Some(core) = core else {
         return Err("a core".into());
     };
@@ -82,7 +82,7 @@ fn the_core_of_a_run_comes_back(rt: HostRuntime) -> Result<(), Fail> {
 #[test]
 fn the_core_comes_back_from_a_refused_line(rt: HostRuntime) -> Result<(), Fail> {
     let (status, core, _) =
-        run_in(rt.alloc(), b"tick 1\ndeliver 99\n", pieces(64, 0), pieces(4096, 0))?;
+        run_in(rt.alloc(), b"tick 1\ndeliver 99\n", in_pieces(64, 0), in_pieces(4096, 0))?;
     let line = 2;
     let fault = StepFault::NoFlight;
     assert_eq!(rt; status, Status::Schedule { line, fault });
@@ -96,7 +96,7 @@ fn the_core_comes_back_from_a_refused_line(rt: HostRuntime) -> Result<(), Fail> 
 
 #[test]
 fn no_core_comes_back_from_a_fault(rt: HostRuntime) -> Result<(), Fail> {
-    let (status, core, _) = run_in(rt.alloc(), SCHEDULE, pieces(64, 0), pieces(5, 2))?;
+    let (status, core, _) = run_in(rt.alloc(), SCHEDULE, in_pieces(64, 0), in_pieces(5, 2))?;
     assert_eq!(rt; status, Status::WriteFault);
     assert!(rt; core.is_none());
     Ok(())

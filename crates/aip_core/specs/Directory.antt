@@ -1,6 +1,5 @@
 -- Where names and addresses are found.
-use Rattle.std.specs.Prelude.{◌≡◌, ℕ, ◌<◌, ◌≤◌, List, length, All}
-use Rattle.std.specs.List.{position_from}
+use Rattle.std.specs.Prelude.{◌≡◌, ℕ, ◌<◌, ◌≤◌, List, length, All, position}
 use Rattle.std.specs.Str.{bytes_eq}
 use Rattle.std.specs.BTreeMap.{get}
 use Rattle.std.specs.Ordering.{nat_cmp, ordering_then}
@@ -33,8 +32,8 @@ pub record FindsPlaces (directory : Inside) : Type 0 where
   pub few : length directory.topology.routers ≤ 256
   pub seats : directory.seats.items ≡ seats_of directory.topology
   pub seated : All (SitsBelow (length directory.topology.routers)) directory.seats.items
-  pub host_names : (name : List ℕ) → get name_cmp directory.host_names name ≡ position_from (λ seat. bytes_eq seat.name name) 0 directory.seats.items
-  pub host_addresses : (address : Address) → get address_cmp directory.host_addresses address ≡ position_from (λ seat. is_same_address seat.address address) 0 directory.seats.items
+  pub host_names : (name : List ℕ) → get name_cmp directory.host_names name ≡ position (λ seat. bytes_eq seat.name name) directory.seats.items
+  pub host_addresses : (address : Address) → get address_cmp directory.host_addresses address ≡ position (λ seat. is_same_address seat.address address) directory.seats.items
   pub router_names : (name : List ℕ) → get name_cmp directory.router_names name ≡ router_named directory.topology.routers name
   pub router_addresses : (address : Address) → get address_cmp directory.router_addresses address ≡ router_with_address directory.topology.routers address
   pub domain_ads : (ad : Id) → get id_cmp directory.domain_ads ad ≡ domain_with_ad directory.topology.domains ad

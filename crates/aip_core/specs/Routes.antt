@@ -8,9 +8,8 @@ use Rattle.domain_routes.specs.Rows.{IsGoalRoutesOf}
 use Rattle.aip_core.specs.declared.routes.Routes.{Routes}
 
 -- what is kept at each number, if anything is, are the routes to the goal of this number
-abbrev pub AreKept : List ℕ → List Edge → (ℕ → Goal) → List (Option GoalRoutes) → Type 0
-AreKept domains edges kind slots =
-    (number : ℕ) (routes : GoalRoutes) → slice_get slots number ≡ Some (Some routes) → IsGoalRoutesOf routes domains edges (kind number)
+pub record AreKept (domains : List ℕ) (edges : List Edge) (kind : ℕ → Goal) (slots : List (Option GoalRoutes)) : Type 0 where
+  pub each : (number : ℕ) (routes : GoalRoutes) → slice_get slots number ≡ Some (Some routes) → IsGoalRoutesOf routes domains edges (kind number)
 
 -- the routes that are kept are those over the graph with these domains of routers and these links
 pub record AreRoutesOver (domains : List ℕ) (edges : List Edge) (routes : Routes) : Type 0 where

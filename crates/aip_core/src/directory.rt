@@ -1,7 +1,6 @@
 //! The names and addresses of a topology, and where they are found.
 
-ghost use Rattle.std.specs.Prelude.{◌≡◌, ◌<◌, ◌≤◌, ℕ, List, length, All, IfSome, IfOk, find, slice_get};
-ghost use Rattle.std.specs.List.{position_from};
+ghost use Rattle.std.specs.Prelude.{◌≡◌, ◌<◌, ◌≤◌, ℕ, List, length, All, IfSome, IfOk, find, map, position, slice_get, option_and_then, Option};
 ghost use Rattle.std.specs.Str.{bytes_eq};
 ghost use Rattle.std.specs.BTreeMap.{get};
 ghost use Rattle.aip_addr.specs.declared.ids.Id.{Id as Ad};
@@ -45,21 +44,51 @@ impl Model for Directory {
     ghost invariant = { FindsPlaces };
 }
 
+fn names_of_hosts(alloc: Global, seats: &[Seat]) -> Result<Vec<Name>, AllocError>
+    ensures { IfOk result (λ names. names.items ≡ map (λ seat. seat.name) seats.now) }
+{
+    seats.iter().map(|seat| seat.name).collect(alloc)
+}
+
+fn addresses_of_hosts(alloc: Global, seats: &[Seat]) -> Result<Vec<Address>, AllocError>
+    ensures { IfOk result (λ addresses. addresses.items ≡ map (λ seat. seat.address) seats.now) }
+{
+    seats.iter().map(|seat| seat.address).collect(alloc)
+}
+
+fn names_of_routers(alloc: Global, routers: &[Router]) -> Result<Vec<Name>, AllocError>
+    ensures { IfOk result (λ names. names.items ≡ map (λ router. router.name) routers.now) }
+{
+    routers.iter().map(|router| router.name).collect(alloc)
+}
+
+fn addresses_of_routers(alloc: Global, routers: &[Router]) -> Result<Vec<Address>, AllocError>
+    ensures { IfOk result (λ addresses. addresses.items ≡ map (λ router. router.address) routers.now) }
+{
+    routers.iter().map(|router| router.address).collect(alloc)
+}
+
+fn ads_of_domains(alloc: Global, domains: &[Domain]) -> Result<Vec<Id>, AllocError>
+    ensures { IfOk result (λ ads. ads.items ≡ map (λ domain. domain.ad) domains.now) }
+{
+    domains.iter().map(|domain| domain.ad).collect(alloc)
+}
+
 fn host_names(alloc: Global, seats: &[Seat]) -> Result<BTreeMap<Name, u16>, AllocError>
     requires { length seats.now ≤ 65536 }
     ensures { IfOk result (λ places. (name : List ℕ) →
-        get name_cmp places name ≡ position_from (λ seat. bytes_eq seat.name name) 0 seats.now) }
+        get name_cmp places name ≡ position (λ seat. bytes_eq seat.name name) seats.now) }
 {
-    let names: Vec<Name> = seats.iter().map(|seat| seat.name).collect(alloc)?;
+    let names = names_of_hosts(alloc, seats)?;
     places_of(alloc, &names)
 }
 
 fn host_addresses(alloc: Global, seats: &[Seat]) -> Result<BTreeMap<Address, u16>, AllocError>
     requires { length seats.now ≤ 65536 }
     ensures { IfOk result (λ places. (address : Place) →
-        get address_cmp places address ≡ position_from (λ seat. is_same_address seat.address address) 0 seats.now) }
+        get address_cmp places address ≡ position (λ seat. is_same_address seat.address address) seats.now) }
 {
-    let addresses: Vec<Address> = seats.iter().map(|seat| seat.address).collect(alloc)?;
+    let addresses = addresses_of_hosts(alloc, seats)?;
     places_of(alloc, &addresses)
 }
 
@@ -67,7 +96,7 @@ fn router_names(alloc: Global, routers: &[Router]) -> Result<BTreeMap<Name, u16>
     requires { length routers.now ≤ 65536 }
     ensures { IfOk result (λ places. (name : List ℕ) → get name_cmp places name ≡ router_named routers.now name) }
 {
-    let names: Vec<Name> = routers.iter().map(|router| router.name).collect(alloc)?;
+    let names = names_of_routers(alloc, routers)?;
     places_of(alloc, &names)
 }
 
@@ -79,7 +108,7 @@ fn router_addresses(
     ensures { IfOk result (λ places. (address : Place) →
         get address_cmp places address ≡ router_with_address routers.now address) }
 {
-    let addresses: Vec<Address> = routers.iter().map(|router| router.address).collect(alloc)?;
+    let addresses = addresses_of_routers(alloc, routers)?;
     places_of(alloc, &addresses)
 }
 
@@ -87,8 +116,29 @@ fn domain_ads(alloc: Global, domains: &[Domain]) -> Result<BTreeMap<Id, u16>, Al
     requires { length domains.now ≤ 65536 }
     ensures { IfOk result (λ places. (ad : Ad) → get id_cmp places ad ≡ domain_with_ad domains.now ad) }
 {
-    let ads: Vec<Id> = domains.iter().map(|domain| domain.ad).collect(alloc)?;
+    let ads = ads_of_domains(alloc, domains)?;
     places_of(alloc, &ads)
+}
+
+// The host at a place.
+fn seat_at(seats: &[Seat], place: Option<u16>) -> Option<Seat>
+    ensures there { (n : ℕ) → All (SitsBelow n) seats.now → IfSome result (SitsBelow n) }
+    ensures found { result ≡ option_and_then (λ n. slice_get seats.now n) place }
+{
+    match place {
+        Some(place) => seats.get(place as usize).copied(),
+        None => None,
+    }
+}
+
+// The router at a place.
+fn router_at(routers: &[Router], place: Option<u16>) -> Option<Router>
+    ensures { result ≡ option_and_then (λ n. slice_get routers.now n) place }
+{
+    match place {
+        Some(place) => routers.get(place as usize).copied(),
+        None => None,
+    }
 }
 
 // The goal inside of the router's own domain: the router with the address, or the router of the host with it.
@@ -142,20 +192,14 @@ impl Directory {
         ensures found { result ≡ seat_named (seats_of self.now) name.now }
         ensures there { IfSome result (λ seat. seat.router < length self.now.routers) }
     {
-        match self.host_names.get(name) {
-            Some(place) => self.seats.get(*place as usize).copied(),
-            None => None,
-        }
+        seat_at(&self.seats, self.host_names.get(name).copied())
     }
 
     /// The host with this address.
     pub fn seat_with_address(&self, address: &Address) -> Option<Seat>
         ensures { result ≡ seat_with_address (seats_of self.now) address.now }
     {
-        match self.host_addresses.get(address) {
-            Some(place) => self.seats.get(*place as usize).copied(),
-            None => None,
-        }
+        seat_at(&self.seats, self.host_addresses.get(address).copied())
     }
 
     /// The place of the router of this name.
@@ -169,10 +213,7 @@ impl Directory {
     fn router_found(&self, name: &Name) -> Option<Router>
         ensures { result ≡ find (λ router. bytes_eq router.name name.now) self.now.routers }
     {
-        match self.router_named(name) {
-            Some(place) => self.routers().get(place as usize).copied(),
-            None => None,
-        }
+        router_at(self.routers(), self.router_named(name))
     }
 
     /// The address of the host or router of this name.

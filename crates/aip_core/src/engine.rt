@@ -6,6 +6,7 @@ ghost use Rattle.aip_topo.specs.declared.topology.Topology.{Topology as Network}
 ghost use Rattle.aip_topo.specs.Sound.{IsSound};
 ghost use Rattle.aip_rules.specs.State.{now_of, flight_count, ticks_of};
 ghost use Rattle.aip_rules.specs.Nodes.{seats_of, seat_named, address_named};
+ghost use Rattle.aip_rules.specs.Routes.{domains_of_routers};
 ghost use Rattle.aip_rules.specs.Reaction.{numbered, in_put, put_event};
 ghost use Rattle.aip_rules.specs.Step.{is_built, ticked};
 ghost use Rattle.aip_rules.specs.Texts.{is_built_topology};
@@ -24,7 +25,7 @@ use crate::{host, router};
 use aip_addr::Name;
 use aip_event::{Events, Input, Target};
 use aip_rules::{Flight, Reaction, StepFault};
-use aip_topo::Topology;
+use aip_topo::{Router, Topology};
 use std::alloc::{AllocError, Global};
 use std::marker::Model;
 
@@ -77,6 +78,13 @@ impl From<AllocError> for StepEnd {
     fn from(_: AllocError) -> Self {
         StepEnd::Memory
     }
+}
+
+// The domain of each router.
+fn domains_of(alloc: Global, routers: &[Router]) -> Result<Vec<u16>, AllocError>
+    ensures { IfOk result (λ domains. domains.items ≡ domains_of_routers routers.now) }
+{
+    routers.iter().map(|router| router.domain).collect(alloc)
 }
 
 // The ticks of an input.
@@ -156,7 +164,7 @@ impl Core {
             topology.routers.as_slice(),
             topology.parts.as_slice(),
         )?;
-        let domains: Vec<u16> = topology.routers.as_slice().iter().map(|router| router.domain).collect(alloc)?;
+        let domains = domains_of(alloc, topology.routers.as_slice())?;
         let wiring = Wiring::new(alloc, domains, links, rows);
         Ok(Core {
             directory: Directory::new(alloc, topology, seats)?,
@@ -169,6 +177,7 @@ impl Core {
 
     /// The core of a topology before any input, all links up. It stands for the empty trace. The only error is want of
     /// memory.
+    #[tactic(auto, using(crate::proofs::Correspond::starts_at))]
     pub fn new(alloc: Global, topology: Topology) -> Result<Core, AllocError>
         requires sound { IsSound topology }
         requires built { IsTrue (is_built_topology topology) }
@@ -316,8 +325,10 @@ impl Core {
     }
 
     // Takes one input, by what is kept alone.
+    #[tactic(auto, using(crate::proofs::Accepted::taken_early, crate::proofs::Accepted::taken_there))]
     fn take(self, alloc: Global, input: Input) -> Result<(Core, Events), StepEnd>
         requires { IsTrue (is_built input) }
+        ensures sound { IsSound self.topo }
         ensures taken { IfOk result (λ taken. IsKeptStep self input taken.0 taken.1) }
         ensures refused { IfErr result (IsKeptRefusal self input) }
     {

@@ -25,6 +25,28 @@ impl Model for Flights {
     ghost view = { λ f. f.entries.items };
 }
 
+fn copy_of(alloc: Global, flight: &Flight) -> Result<Flight, AllocError>
+    ensures { IfOk result (λ copy. copy ≡ flight.now) }
+{
+    let bytes = Bytes::from_slice(alloc, flight.bytes.as_slice())?;
+    Ok(Flight {
+        target: flight.target,
+        bytes,
+    })
+}
+
+// The event by which a flight is put.
+fn event_of(number: u64, flight: Flight) -> Event
+    ensures { result ≡ Put number flight.target flight.bytes }
+{
+    let Flight { target, bytes } = flight;
+    Event::Put {
+        flight: number,
+        target,
+        bytes,
+    }
+}
+
 impl Flights {
     /// No flights.
     pub fn new(alloc: Global) -> Flights
@@ -56,16 +78,7 @@ impl Flights {
         ensures event { IfOk result (λ event. event ≡ Put (length self.old) flight.target flight.bytes) }
     {
         let number = self.entries.len() as u64;
-        let Flight { target, bytes } = flight;
-        let kept = Bytes::from_slice(alloc, bytes.as_slice())?;
-        self.entries.push(Flight {
-            target,
-            bytes: kept,
-        })?;
-        Ok(Event::Put {
-            flight: number,
-            target,
-            bytes,
-        })
+        self.entries.push(copy_of(alloc, &flight)?)?;
+        Ok(event_of(number, flight))
     }
 }

@@ -9,6 +9,7 @@ use std::alloc::{AllocError, Global};
 use std::collections::BTreeMap;
 
 /// The place of each key among these; of a key that stands twice, its first. The only error is want of memory.
+#[tactic(auto, using(crate::proofs::Indexed::finds_more))]
 pub fn places_of<K: Ord + Copy>(alloc: Global, keys: &[K]) -> Result<BTreeMap<K, u16>, AllocError>
     requires { length keys.now ≤ 65536 }
     ensures { IfOk result (λ places. (key : K) →

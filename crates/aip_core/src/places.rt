@@ -84,7 +84,7 @@ fn place_host(
     requires rows { length rows.old.items ≡ length routers.now }
     requires room { (k : ℕ) → slice_index counts.old k + 2 < 2 ^ 16 }
     ensures all { length rows.new.items ≡ length rows.old.items }
-    ensures rows { OnOk result ((before : List Part) (router : ℕ) →
+    ensures rows { OnOk result ((before : List Part) → CountPorts before counts.old → (router : ℕ) →
         row_of rows.new.items router ≡ row_of rows.old.items router ++ neighbours_by before (Host host.now) router) }
     ensures bound { (k : ℕ) → slice_index counts.new k ≤ slice_index counts.old k + 2 }
     ensures counts { (before : List Part) → CountPorts before counts.old → CountPorts (Host host.now ∷ before) counts.new }

@@ -2,14 +2,14 @@
 
 ghost use Rattle.std.specs.Prelude.{◌≡◌, ◌<◌, ◌≤◌, length, Some, IsSome, IfSome, IfOk, slice_get};
 ghost use Rattle.aip_frame.specs.Frame.{frame_bytes, frame_of};
-ghost use Rattle.aip_rules.specs.Nodes.{target_at};
+ghost use Rattle.aip_rules.specs.Nodes.{target_at, target_towards};
 ghost use Rattle.aip_rules.specs.Routes.{goal_of, port_of_seat, port_to_goal, port_over};
 ghost use Rattle.aip_rules.specs.Reaction.{happens_and_puts};
 ghost use Rattle.aip_rules.specs.Router.{one_hop_less, passed};
 ghost use Rattle.aip_event.specs.declared.event.Event.TheVariants.{Forward};
 ghost use Rattle.aip_event.specs.declared.event.Cause.TheVariants.{Open};
 ghost use Rattle.aip_core.specs.Machine.{frame_over, taken_over, router_over};
-ghost use Rattle.aip_core.specs.Wiring.{IsWiringOf};
+ghost use Rattle.aip_core.specs.Wiring.{IsWiringOf, LeadsBelow};
 
 use crate::directory::Directory;
 use crate::reactions::{dropped, happens_and_puts, nothing};
@@ -89,37 +89,52 @@ fn port_over(
     }
 }
 
+// What a frame goes towards that is put towards what lies at a port of the router.
+fn towards(
+    directory: &Directory,
+    neighbour: Option<Neighbour>,
+    router: u16,
+    port: u16,
+) -> Target
+    requires there { router < length directory.now.routers }
+    requires leads { IfSome neighbour (LeadsBelow (length directory.now.routers)) }
+    ensures { result ≡ target_towards directory.now.routers neighbour router port }
+{
+    let Some(neighbour) = neighbour else {
+        return Target::Port {
+            router: directory.name_at(router),
+            port: port.into(),
+        };
+    };
+    match neighbour {
+        Neighbour::Host { name } => Target::Host { name },
+        Neighbour::Link {
+            router: other,
+            port: far,
+            trusted: _,
+        } => Target::Port {
+            router: directory.name_at(other),
+            port: far.into(),
+        },
+    }
+}
+
 // What a frame goes towards that the router puts on a port.
 fn target_at(directory: &Directory, wiring: &Wiring, router: u16, port: u16) -> Target
     requires wired { IsWiringOf directory.now wiring.now }
     requires there { router < length directory.now.routers }
     ensures { result ≡ target_at directory.now router port }
 {
-    match wiring.neighbour(router, port) {
-        Some(Neighbour::Host { name }) => Target::Host { name },
-        Some(Neighbour::Link {
-            router: other,
-            port: far,
-            ..
-        }) => Target::Port {
-            router: directory.name_at(other),
-            port: far.into(),
-        },
-        None => Target::Port {
-            router: directory.name_at(router),
-            port: port.into(),
-        },
-    }
+    towards(directory, wiring.neighbour(router, port), router, port)
 }
 
 // The bytes of the frame with its hop limit lowered by one.
 fn one_hop_less(alloc: Global, bytes: &[u8]) -> Result<Bytes, AllocError>
-    requires frame { IsSome (frame_of bytes.now) }
-    requires hops { IfSome (frame_of bytes.now) (λ frame. 1 < frame.hop) }
+    requires { IsSome (frame_of bytes.now) }
     ensures { IfOk result (λ less. IfSome (frame_of bytes.now) (λ frame. less ≡ frame_bytes (one_hop_less frame))) }
 {
     let mut frame = Vec::from_slice(alloc, bytes)?;
-    set_hop(&mut frame, hop_of(bytes) - 1);
+    set_hop(&mut frame, hop_of(bytes).saturating_sub(1));
     Ok(Bytes::from_vec(frame))
 }
 
@@ -131,8 +146,7 @@ fn forward(
     target: Target,
     bytes: &[u8],
 ) -> Result<Reaction, AllocError>
-    requires frame { IsSome (frame_of bytes.now) }
-    requires hops { IfSome (frame_of bytes.now) (λ frame. 1 < frame.hop) }
+    requires { IsSome (frame_of bytes.now) }
     ensures { IfOk result (λ reaction. IfSome (frame_of bytes.now) (λ frame.
         reaction ≡ happens_and_puts (Forward at.now.own.name at.now.port out Open) target (frame_bytes (one_hop_less frame)))) }
 {
@@ -157,7 +171,6 @@ fn pass(
     requires wired { IsWiringOf directory.now wiring.old }
     requires there { at.now.place < length directory.now.routers }
     requires frame { IsSome (frame_of bytes.now) }
-    requires hops { IfSome (frame_of bytes.now) (λ frame. 1 < frame.hop) }
     ensures same { wiring.new ≡ wiring.old }
     ensures reaction { IfOk result (λ reaction. IfSome (frame_of bytes.now) (λ frame.
         reaction ≡ passed directory.now (record { place = at.now.place; self = at.now.own; port = at.now.port }) frame

@@ -19,18 +19,20 @@ pub struct Routes {
 }
 
 // Makes place for a number, with nothing kept there.
+#[tactic(auto, using(crate::proofs::Slots::kept_longer))]
 fn make_place(slots: &mut Vec<Option<GoalRoutes>>, number: usize) -> Result<(), AllocError>
     ensures kept { (domains : List ℕ) (edges : List Wire) (kind : ℕ → Towards) →
         AreKept domains edges kind slots.old.items → AreKept domains edges kind slots.new.items }
     ensures there { IfOk result (λ done. number < length slots.new.items) }
 {
-    while slots.len() <= number {
+    'places: while slots.len() <= number {
         slots.push(None)?;
     }
     Ok(())
 }
 
 // The port of a router by the routes that are kept at a number, once they are computed.
+#[tactic(auto, using(crate::proofs::Slots::kept_set))]
 fn port_by(
     slots: &mut Vec<Option<GoalRoutes>>,
     alloc: Global,

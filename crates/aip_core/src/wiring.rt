@@ -32,6 +32,7 @@ impl Model for Wiring {
     ghost invariant = { HoldsRoutes };
 }
 
+#[tactic(auto, using(crate::proofs::Links::same_with))]
 fn is_up(links: &[Edge], link: usize) -> bool
     requires { link < length links.now }
     ensures { with_link links.now link result ≡ links.now }
@@ -39,11 +40,21 @@ fn is_up(links: &[Edge], link: usize) -> bool
     links[link].up
 }
 
+#[tactic(auto, using(crate::proofs::Links::set_is_with))]
 fn set_up(links: &mut [Edge], link: usize, up: bool)
     requires { link < length links.old }
     ensures { links.new ≡ with_link links.old link up }
 {
     links[link].up = up;
+}
+
+fn relinked(links: Vec<Edge>, link: usize, up: bool) -> Vec<Edge>
+    requires { link < length links.items }
+    ensures { result.items ≡ with_link links.items link up }
+{
+    let mut links = links;
+    set_up(&mut links, link, up);
+    links
 }
 
 impl Wiring {
@@ -91,12 +102,14 @@ impl Wiring {
                 routes,
             };
         }
-        let Graph { domains, mut edges } = graph;
-        set_up(&mut edges, link, up);
+        let Graph { domains, edges } = graph;
+        let edges = relinked(edges, link, up);
+        let graph = Graph { domains, edges };
+        let routes = Routes::new(alloc);
         Wiring {
-            graph: Graph { domains, edges },
+            graph,
             rows,
-            routes: Routes::new(alloc),
+            routes,
         }
     }
 

@@ -13,7 +13,7 @@ use Rattle.aip_event.specs.declared.event.Event.{Event}
 use Rattle.aip_event.specs.declared.event.Reason.TheVariants as reason
 use Rattle.aip_event.specs.declared.event.Cause.TheVariants.{Open}
 use Rattle.aip_event.specs.declared.input.Input.{Input}
-use Rattle.aip_event.specs.declared.input.Input.TheVariants.{Tick, Send, Raw, Deliver, Inject, Cut, Mend, Shutoff, Restart, Stop}
+use Rattle.aip_event.specs.declared.input.Input.TheVariants.{Tick, Send, Raw, Deliver, Inject, Cut, Mend, Shutoff, Restart, Stop, Halt, Publish}
 use Rattle.aip_event.specs.declared.input.Target.{Target}
 use Rattle.aip_event.specs.declared.input.Target.TheVariants as target
 use Rattle.aip_topo.specs.Sound.{IsSound}
@@ -238,6 +238,8 @@ outcome_modest topo tr (Mend link) sound = relinked_modest topo link
 outcome_modest topo tr (Shutoff host flight ttl) sound = shut_modest topo (seat_named (seats_of topo) host) (flight_at tr flight) ttl
 outcome_modest topo tr (Restart node) sound = restarted_modest (address_named topo node)
 outcome_modest topo tr (Stop host call byte) sound = armed_modest topo (seat_named (seats_of topo) host) call byte
+outcome_modest topo tr (Halt host call byte) sound = nothing_modest
+outcome_modest topo tr (Publish bytes) sound = nothing_modest
 
 -- the flights that calm events with a put behind them put
 pub put_calm : (events : List Event) (number : ℕ) (put : Option Flight) → AreCalm events → flights_put (events ++ put_event number put) ≡ in_put put

@@ -4,7 +4,7 @@ use Rattle.aip_addr.specs.declared.ids.Address.{Address}
 use Rattle.aip_frame.specs.declared.frame.Frame.{Frame}
 use Rattle.aip_frame.specs.Frame.{frame_bytes, frame_of, most_body}
 use Rattle.aip_event.specs.declared.input.Input.{Input}
-use Rattle.aip_event.specs.declared.input.Input.TheVariants.{Tick, Send, Raw, Deliver, Inject, Cut, Mend, Shutoff, Restart, Stop}
+use Rattle.aip_event.specs.declared.input.Input.TheVariants.{Tick, Send, Raw, Deliver, Inject, Cut, Mend, Shutoff, Restart, Stop, Halt, Publish}
 use Rattle.aip_event.specs.declared.event.Event.{Event}
 use Rattle.aip_event.specs.declared.input.Target.{Target}
 use Rattle.aip_event.specs.declared.input.Target.TheVariants as target
@@ -161,6 +161,8 @@ outcome_of topo tr (Shutoff host flight ttl) =
     shut_off topo (seat_named (seats_of topo) host) (flight_at tr flight) ttl
 outcome_of topo tr (Restart node) = restarted (address_named topo node)
 outcome_of topo tr (Stop host call byte) = stop_armed topo (seat_named (seats_of topo) host) call byte
+outcome_of topo tr (Halt host call byte) = Ok still_to_come
+outcome_of topo tr (Publish bytes) = Ok still_to_come
 
 -- the most inputs of a trace
 abbrev pub most_inputs : ℕ

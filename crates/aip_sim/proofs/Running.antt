@@ -6,11 +6,10 @@ use Rattle.aip_text.specs.Lines.{lines_of}
 use Rattle.aip_io.specs.Causes.{Rose}
 use Rattle.aip_io.specs.Sink.{and_then, TookPart}
 use Rattle.aip_topo.specs.declared.topology.Topology.{Topology}
-use Rattle.aip_topo.specs.declared.faults.TopoEnd.{TopoEnd}
-use Rattle.aip_topo.specs.declared.faults.TopoEnd.TheVariants as topo_end
-use Rattle.aip_topo.specs.Reading.{topology_of}
+use Rattle.aip_topo.specs.Reading.{RefusedLine, topology_of}
 use Rattle.aip_rules.specs.Texts.{Ran, ran, ran_from, ran_over, end_of, output_of, text_of_run, is_built_topology}
 use Rattle.aip_rules.specs.Texts as texts
+use Rattle.aip_rules.proofs.Lines.{of_lines}
 use Rattle.aip_core.specs.Kept.{Kept}
 use Rattle.aip_core.specs.StandsFor.{StandsFor}
 use Rattle.aip_sim.specs.declared.ends.RunEnd.{RunEnd}
@@ -36,41 +35,15 @@ reads_on named wide fault cause text0 text1 before mid now wider to from same st
   others = λ name other told. reads.others name (λ is. other (wider name is)) (subst (λ o. IsSome o) (sym (same name)) told) ∙ still name;
 }
 
-pub cause_on : (fault : Type 0) (before mid now : ℕ) → mid ≡ before → HasCause fault mid now → HasCause fault before now
-cause_on fault before mid now still cause = subst (λ n. HasCause fault n now) still cause
-
--- ## On the way
-
 -- to take nothing is to stay
 and_nothing : (taken : Option (List ℕ)) → and_then taken [] ≡ taken
 and_nothing None = refl
 and_nothing (Some xs) = ap Some (append-nil xs)
 
--- the run has come to its first line
-pub first : (t : Option (List ℕ)) (core : Kept) (left : List ℕ → List ℕ) (start : Option (List ℕ)) → ((text : List ℕ) → left text ≡ text)
-    → IfSome t (λ told. (topo : Topology) → StandsFor topo [] core → HasCome topo core 1 (lines_of (left told)) start start (ran topo told))
-first None core left start all = tt
-first (Some text) core left start all = λ topo stands. record {
-  trace = [];
-  stands = stands;
-  rest = ap (λ rest. ran_from topo [] 1 (lines_of rest)) (all text);
-  took = sym (and_nothing start);
-}
-
--- a turn more
-pub next : (t mid : Option (List ℕ)) (core kept : Kept) (number : ℕ) (before after : List ℕ → List (List ℕ)) (start taken now : Option (List ℕ)) (turn : Turn) → mid ≡ t
-    → IfSome t (λ told. (topo : Topology) → StandsFor topo [] core → HasCome topo kept number (before told) start taken (ran topo told))
-    → IfSome mid (λ told. (topo : Topology) (start : Option (List ℕ)) (whole : Ran) → HasCome topo kept number (before told) start taken whole → IsTurn topo number (after told) start now whole turn)
-    → IfSome t (λ told. (topo : Topology) → StandsFor topo [] core → IsTurn topo number (after told) start now (ran topo told) turn)
-next None mid core kept number before after start taken now turn same came turns = tt
-next (Some text) mid core kept number before after start taken now turn same came turns = λ topo stands.
-    subst (λ o. IfSome o (λ told. (topo : Topology) (start : Option (List ℕ)) (whole : Ran) → HasCome topo kept number (before told) start taken whole → IsTurn topo number (after told) start now whole turn))
-    same turns topo start (ran topo text) (came topo stands)
-
 -- ## A whole run
 
 -- over a topology that is built the run is that of the schedule
-ran_is : (r : Result Topology TopoEnd) (topo : Topology) (schedule : List ℕ) → r ≡ Ok topo → is_built_topology topo ≡ true → ran_over r schedule ≡ ran topo schedule
+ran_is : (r : Result Topology RefusedLine) (topo : Topology) (schedule : List ℕ) → r ≡ Ok topo → is_built_topology topo ≡ true → ran_over r schedule ≡ ran topo schedule
 ran_is r topo schedule given built =
     ap (λ x. ran_over x schedule) given ∙ ap (λ b. cond b (ran topo schedule) (record { trace = []; ending = texts.Topology_unbuilt })) built
 
@@ -94,10 +67,10 @@ stood None s mid core end (Some last) old new same opened played = tt
 stood (Some told) None mid core end (Some last) old new same opened played = tt
 stood (Some told) (Some lines) mid core end (Some last) old new same opened played =
     let ended = subst (λ o. IfSome o (λ lines. (topo : Topology) → StandsFor topo [] core → HasEnded topo (ran topo lines) old new end (Some last))) same played in
-    record { topo = opened.topo; given = opened.given; stands = (ended opened.topo opened.stands).stands }
+    record { topo = opened.topo; given = opened.given; stands = (ended opened.topo opened.stands).stands; lines = of_lines opened.topo lines }
 
 -- a topology that was opened ends no run by itself
-ends_none : (r : Result Topology TopoEnd) (topo : Topology) → r ≡ Ok topo → is_built_topology topo ≡ true → end_over r ≡ None
+ends_none : (r : Result Topology RefusedLine) (topo : Topology) → r ≡ Ok topo → is_built_topology topo ≡ true → end_over r ≡ None
 ends_none r topo given built = ap end_over given ∙ ap (λ b. cond b None (Some run_end.Unbuilt)) built
 
 pub judges_opened : (t : Option (List ℕ)) (core : Kept) (unread unwritten : Type 0) (end : RunEnd) → IfSome t (λ told. IsOpened told core) → is_topology_refused end ≡ false
@@ -112,15 +85,14 @@ judges_opened (Some told) core unread unwritten end opened passed = record {
     differ is = cc
 
 -- a run that ends every run over the topology
-decided_by : (r : Result Topology TopoEnd) (lines : List ℕ) (end : RunEnd) → end_over r ≡ Some end → (run_end_of (ran_over r lines).ending ≡ end) × (text_of_run (ran_over r lines) ≡ [])
+decided_by : (r : Result Topology RefusedLine) (lines : List ℕ) (end : RunEnd) → end_over r ≡ Some end → (run_end_of (ran_over r lines).ending ≡ end) × (text_of_run (ran_over r lines) ≡ [])
 decided_by (Ok topo) lines end e = built_or_not (is_built_topology topo) e
   where
     built_or_not : (b : Bool) → cond b None (Some run_end.Unbuilt) ≡ Some end
         → (run_end_of (cond b (ran topo lines) (record { trace = []; ending = texts.Topology_unbuilt })).ending ≡ end) × (text_of_run (cond b (ran topo lines) (record { trace = []; ending = texts.Topology_unbuilt })) ≡ [])
     built_or_not true e = absurd (cc)
     built_or_not false e = (cc, refl)
-decided_by (Err (topo_end.Line line f)) lines end e = (cc, refl)
-decided_by (Err topo_end.Memory) lines end e = (cc, refl)
+decided_by (Err refused) lines end e = (cc, refl)
 
 -- nothing was taken, which is a first part of anything
 took_nothing : (taken : Option (List ℕ)) (bytes : List ℕ) → TookPart taken taken bytes

@@ -14,10 +14,9 @@ use Rattle.aip_rules.specs.Step.{is_built, step_of, with_events, after_step}
 use Rattle.aip_rules.specs.Texts.{Ending, Ran, by_line, by_input, by_step, ran_from, scheduled, text_of, text_of_run, ending_text, line_of, refusal_line}
 use Rattle.aip_rules.specs.Texts as texts
 use Rattle.aip_core.specs.Kept.{Kept}
-use Rattle.aip_core.specs.StandsFor.{StandsFor}
-use Rattle.aip_core.specs.Steps.{IsStep, IsRefusal}
-use Rattle.aip_core.specs.declared.StepEnd.{StepEnd}
-use Rattle.aip_core.specs.declared.StepEnd.TheVariants as step_end
+use Rattle.aip_core.specs.StandsFor.{StandsFor, IsStep}
+use Rattle.aip_core.specs.Answers.{IsRefusal}
+use Rattle.aip_core.specs.declared.engine.StepEnd.TheVariants as step_end
 use Rattle.aip_sim.specs.declared.ends.RunEnd.{RunEnd}
 use Rattle.aip_sim.specs.declared.ends.RunEnd.TheVariants as run_end
 use Rattle.aip_sim.specs.Ends.{IsCutShort, run_end_of}
@@ -157,24 +156,6 @@ ended topo whole start now core stands took = record {
   stands = stands;
 }
 
--- the schedule is done
-pub done : (topo : Topology) (core : Kept) (number : ℕ) (lines : List (List ℕ)) (start mid : Option (List ℕ)) (whole : Ran) → lines ≡ []
-    → HasCome topo core number lines start mid whole → HasEnded topo whole start mid run_end.Done (Some core)
-done topo core number lines start mid whole none came =
-    let is : record { trace = came.trace; ending = texts.Done } ≡ whole = ap (ran_from topo came.trace number) (sym none) ∙ came.rest in
-    subst (λ (r : Ran). HasEnded topo r start mid run_end.Done (Some core)) is
-    (ended topo (record { trace = came.trace; ending = texts.Done }) start mid core came.stands (came.took ∙ ap (and_then start) (sym (append-nil (text_of came.trace)))))
-
--- a line is skipped
-pub skips : (topo : Topology) (core : Kept) (number : ℕ) (line : List ℕ) (before lines : List (List ℕ)) (start mid : Option (List ℕ)) (whole : Ran) → before ≡ line ∷ lines → scheduled number line ≡ Ok None
-    → HasCome topo core number before start mid whole → HasCome topo core (number + 1) lines start mid whole
-skips topo core number line before lines start mid whole first read came = record {
-  trace = came.trace;
-  stands = came.stands;
-  rest = sym (ran_line topo came.trace number line lines (Ok None) read) ∙ ap (ran_from topo came.trace number) (sym first) ∙ came.rest;
-  took = came.took;
-}
-
 -- a line is refused by itself
 pub refused_line : (topo : Topology) (core : Kept) (number : ℕ) (line : List ℕ) (before lines : List (List ℕ)) (f : StepFault) (start mid : Option (List ℕ)) (whole : Ran) → before ≡ line ∷ lines → scheduled number line ≡ Err f
     → HasCome topo core number before start mid whole → IsRefusedHere topo core number f start mid whole
@@ -196,18 +177,6 @@ refused_step topo core after number line lines input f start mid whole read buil
       ∙ ap (by_step came.trace number input (behind topo number lines)) (refusal.1 topo came.trace came.stands);
   took = came.took;
 }
-
--- an input is of a kind that isn't built
-pub unbuilt : (topo : Topology) (core : Kept) (number : ℕ) (line : List ℕ) (lines : List (List ℕ)) (input : Input) (start mid : Option (List ℕ)) (whole : Ran)
-    → scheduled number line ≡ Ok (Some input) → is_built input ≡ false
-    → HasCome topo core number (line ∷ lines) start mid whole → HasEnded topo whole start mid run_end.Unbuilt None
-unbuilt topo core number line lines input start mid whole read not_built came =
-    let is : record { trace = came.trace; ending = texts.Input_unbuilt number } ≡ whole =
-    sym (ran_line topo came.trace number line lines (Ok (Some input)) read ∙ by_built topo came.trace number (behind topo number lines) input false not_built) ∙ came.rest in
-    subst (λ (r : Ran). HasEnded topo r start mid run_end.Unbuilt None) is (record {
-      writes = (ended topo (record { trace = came.trace; ending = texts.Input_unbuilt number }) start mid core came.stands (came.took ∙ ap (and_then start) (sym (append-nil (text_of came.trace))))).writes;
-      stands = tt;
-    })
 
 -- an input is stepped
 pub steps : (topo : Topology) (core after : Kept) (number : ℕ) (line : List ℕ) (lines : List (List ℕ)) (input : Input) (events : List Event) (start mid : Option (List ℕ)) (whole : Ran)

@@ -1,13 +1,13 @@
 -- What a run writes, and what its core stands for.
-use Rattle.std.specs.Prelude.{◌≡◌, ◌⊎◌, ℕ, true, List, Option, IfSome, Ok}
+use Rattle.std.specs.Prelude.{◌≡◌, ◌⊎◌, ℕ, List, Option, Ok}
 use Rattle.aip_io.specs.Sink.{and_then, TookPart}
 use Rattle.aip_topo.specs.declared.topology.Topology.{Topology}
 use Rattle.aip_topo.specs.Reading.{topology_of}
-use Rattle.aip_rules.specs.Texts.{Ran, ran, text_of_run, is_built_topology}
+use Rattle.aip_rules.specs.Texts.{ran, IsTraceOfLines}
 use Rattle.aip_core.specs.Kept.{Kept}
 use Rattle.aip_core.specs.StandsFor.{StandsFor}
 use Rattle.aip_sim.specs.declared.ends.RunEnd.{RunEnd}
-use Rattle.aip_sim.specs.Ends.{run_end_of, IsCutShort}
+use Rattle.aip_sim.specs.Ends.{IsCutShort}
 
 -- The run answers this and then the whole text is taken, or a fault or want of memory cuts it short. On every answer a
 -- first part of the text is taken.
@@ -16,8 +16,10 @@ pub record Writes (expected : RunEnd) (text : List ℕ) (end : RunEnd) (old new 
   pub whole : end ≡ expected → new ≡ and_then old text
   pub part : TookPart old new text
 
--- The core stands for the trace of the run of a schedule over the topology that a text gives.
+-- The core stands for the trace of the run of a schedule over the topology that a text gives, which is the trace of the
+-- inputs on the lines before the one that ends the run.
 pub record StandsForRun (topology schedule : List ℕ) (core : Kept) : Type 0 where
   pub topo : Topology
   pub given : topology_of topology ≡ Ok topo
   pub stands : StandsFor topo (ran topo schedule).trace core
+  pub lines : IsTraceOfLines topo schedule

@@ -32,11 +32,3 @@ IsScheduled number line Skipped = number ≤ 65536
 IsScheduled number line (Refused f) = ⊤
 IsScheduled number line End = ⊤
 IsScheduled number line (Cut end) = IsCutShort end × (end ≢ WriteFault)
-
--- the run goes on behind it
-abbrev pub GoesOn : Scheduled → Type 0
-GoesOn (Input input) = ⊤
-GoesOn Skipped = ⊤
-GoesOn (Refused f) = ⊥
-GoesOn End = ⊥
-GoesOn (Cut end) = ⊥

@@ -1,10 +1,10 @@
 // The next line of a schedule.
-ghost use Rattle.std.specs.Prelude.{◌≡◌, ℕ, ◌<◌, List, length, true, Err, IfSome};
+ghost use Rattle.std.specs.Prelude.{◌≡◌, ℕ, ◌<◌, ◌≤◌, List, length, Err, IfSome};
 ghost use Rattle.aip_text.specs.Lines.{lines_of};
 ghost use Rattle.aip_io.specs.Lines.{left_of};
 ghost use Rattle.aip_rules.specs.Texts.{scheduled};
 ghost use Rattle.aip_sim.specs.Causes.{ReadsOnly};
-ghost use Rattle.aip_sim.specs.Schedules.{GoesOn, IsJudged, IsNextOf, IsScheduled};
+ghost use Rattle.aip_sim.specs.Schedules.{IsJudged, IsNextOf, IsScheduled};
 
 use crate::ends::RunEnd;
 use aip_event::{Input, read_input};
@@ -34,16 +34,14 @@ pub enum Scheduled {
     Cut(RunEnd),
 }
 
-// A line by itself: the first fault that applies, or an input, or a line that is skipped.
+// A line of at most 20,000 bytes by itself: the first fault that applies, or an input, or a line that is skipped.
 fn judge(alloc: Global, number: u32, line: &[u8]) -> Scheduled
+    requires { length line.now ≤ 20000 }
     ensures judged { IsJudged number line.now result }
     ensures known { IsScheduled number line.now result }
 {
     if number > MOST_LINES {
         return Scheduled::Refused(StepFault::Many);
-    }
-    if line.len() > LONGEST_LINE {
-        return Scheduled::Refused(StepFault::Long);
     }
     if has_carriage_return(line) {
         return Scheduled::Refused(StepFault::Form);
@@ -77,12 +75,10 @@ pub fn next_scheduled<S: Shelf>(
     lines: &mut Lines,
     number: u32,
 ) -> Scheduled
-    requires more { lines.old.more ≡ true }
-    requires most { lines.old.most ≡ 20000 }
+    requires { lines.old.most ≡ 20000 }
     ensures told { IfSome (S.text shelf.old name.now) (λ told.
         IsNextOf number (lines_of (left_of told lines.old)) (lines_of (left_of told lines.new)) lines.new.line result) }
     ensures known { IsScheduled number lines.new.line result }
-    ensures goes_on { GoesOn result → lines.new.more ≡ true }
     ensures most { lines.new.most ≡ 20000 }
     ensures text { (other : List ℕ) → S.text shelf.new other ≡ S.text shelf.old other }
     ensures counts { ReadsOnly (λ other. other ≡ name.now) (result ≡ Scheduled.Cut RunEnd.ReadFault)

@@ -1,5 +1,5 @@
 // The topology in a file.
-ghost use Rattle.std.specs.Prelude.{◌≡◌, ◌≢◌, ◌⊎◌, ℕ, List, Err, IfSome, IfOk, IfErr, IsErrOf};
+ghost use Rattle.std.specs.Prelude.{◌≡◌, ◌≢◌, ℕ, List, take, Err, IfSome, IfOk, IsErrOf};
 ghost use Rattle.aip_topo.specs.Reading.{topology_of};
 ghost use Rattle.aip_topo.specs.Sound.{IsSound};
 ghost use Rattle.aip_rules.specs.Texts.{is_open, is_plain, is_built_topology};
@@ -8,7 +8,7 @@ ghost use Rattle.aip_sim.specs.Causes.{ReadsOnly};
 ghost use Rattle.aip_sim.specs.Topologies.{IsReadOf};
 
 use aip_io::{ReadEnd, Shelf, read_all};
-use aip_topo::{Part, Router, TopoEnd, TopoFault, Topology};
+use aip_topo::{MOST_READ, Part, Router, TopoEnd, TopoFault, Topology};
 use std::alloc::Global;
 
 /// Why no topology could be read.
@@ -55,21 +55,10 @@ impl From<TopoEnd> for TopologyEnd {
     }
 }
 
-// As much of a topology's text as decides what it gives.
-fn text_in<S: Shelf>(alloc: Global, shelf: &mut S, name: &str) -> Result<Vec<u8>, TopologyEnd>
-    ensures decides { IfOk result (λ bytes. IfSome (S.text shelf.old name.now) (λ told. topology_of bytes.items ≡ topology_of told)) }
-    ensures unread { IfErr result (λ end. (end ≡ TopologyEnd.ReadFault) ⊎ (end ≡ TopologyEnd.Memory)) }
-    ensures text { (other : List ℕ) → S.text shelf.new other ≡ S.text shelf.old other }
-    ensures counts { ReadsOnly (λ other. other ≡ name.now) (IsErrOf result TopologyEnd.ReadFault)
-        (S.text shelf.old) (S.faults shelf.old) (S.faults shelf.new) }
-{
-    let bytes = read_all(alloc, shelf, name, usize::MAX)?;
-    Ok(bytes)
-}
-
 // The topology that a text gives.
 fn topology_in(alloc: Global, text: &[u8]) -> Result<Topology, TopologyEnd>
     ensures read { IsReadOf text.now result }
+    ensures decided { (whole : List ℕ) → text.now ≡ take 1048577 whole → topology_of whole ≡ topology_of text.now }
     ensures sound { IfOk result IsSound }
     ensures known { result ≢ Err TopologyEnd.ReadFault }
 {
@@ -79,7 +68,7 @@ fn topology_in(alloc: Global, text: &[u8]) -> Result<Topology, TopologyEnd>
     }
 }
 
-/// Reads the topology in the file of this name.
+/// Reads the topology in the file of this name. It reads no further than the byte that decides.
 pub fn read_topology<S: Shelf>(
     alloc: Global,
     shelf: &mut S,
@@ -91,7 +80,7 @@ pub fn read_topology<S: Shelf>(
     ensures counts { ReadsOnly (λ other. other ≡ name.now) (IsErrOf result TopologyEnd.ReadFault)
         (S.text shelf.old) (S.faults shelf.old) (S.faults shelf.new) }
 {
-    let text = text_in(alloc, shelf, name)?;
+    let text = read_all(alloc, shelf, name, MOST_READ)?;
     topology_in(alloc, &text)
 }
 

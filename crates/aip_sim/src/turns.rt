@@ -1,5 +1,5 @@
 // One line of a schedule, taken.
-ghost use Rattle.std.specs.Prelude.{◌≡◌, ℕ, ◌≤◌, ◌∷◌, List, Option, true, Ok, Some, IfSome};
+ghost use Rattle.std.specs.Prelude.{◌≡◌, ℕ, ◌≤◌, ◌∷◌, List, Option, Ok, Some, IfSome};
 ghost use Rattle.aip_text.specs.Lines.{lines_of};
 ghost use Rattle.aip_event.specs.Lines.{input_line};
 ghost use Rattle.aip_io.specs.Lines.{left_of};
@@ -127,13 +127,12 @@ pub fn take_line<S: Shelf, K: Sink>(
     core: Core,
     out: &mut K,
 ) -> Turn
-    requires more { lines.old.more ≡ true }
-    requires most { lines.old.most ≡ 20000 }
+    requires { lines.old.most ≡ 20000 }
     ensures told { IfSome (S.text shelf.old name.now) (λ told. (topo : Topology) (start : Option (List ℕ)) (whole : Ran)
         → HasCome topo core number (lines_of (left_of told lines.old)) start (K.taken out.old) whole
         → IsTurn topo number (lines_of (left_of told lines.new)) start (K.taken out.new) whole result) }
     ensures known { IsKnown result }
-    ensures more { IsGoing result → (lines.new.more ≡ true) × (number ≤ 65536) }
+    ensures few { IsGoing result → number ≤ 65536 }
     ensures most { lines.new.most ≡ 20000 }
     ensures text { (other : List ℕ) → S.text shelf.new other ≡ S.text shelf.old other }
     ensures counts { ReadsOnly (λ other. other ≡ name.now) (EndsWith RunEnd.ReadFault result)

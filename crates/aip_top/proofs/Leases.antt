@@ -7,15 +7,13 @@ use Rattle.std.proofs.lemmas.Bool.Decides.{nat_tests}
 use Rattle.lms_core.specs.Tree.{identifier_of}
 use Rattle.lms_core.specs.Parameters.{levels_of}
 use Rattle.lease_disk.specs.Images.{AtEachMoment}
-use Rattle.lease_disk.specs.Moments.{at_start, weakened}
+use Rattle.lease_disk.specs.Moments.{at_start}
 use Rattle.leaf_lease.specs.LeaseFile.{IsOpen, is_open, kept_id, kept_height, file_size}
 use Rattle.leaf_lease.specs.Format.{IsFresh}
 use Rattle.aip_io.specs.Sink.{and_then, TookPart}
 use Rattle.aip_topo.specs.declared.topology.Domain.{Domain}
 use Rattle.aip_topo.specs.declared.topology.Topology.{Topology}
-use Rattle.aip_topo.specs.declared.faults.TopoEnd.{TopoEnd}
-use Rattle.aip_topo.specs.declared.faults.TopoEnd.TheVariants as topo_end
-use Rattle.aip_topo.specs.Reading.{topology_of}
+use Rattle.aip_topo.specs.Reading.{RefusedLine, topology_of}
 use Rattle.aip_sim.specs.Causes.{HasCause}
 use Rattle.aip_top.specs.declared.lease.Wanted.{Wanted}
 use Rattle.aip_top.specs.declared.status.Status.{Status}
@@ -116,19 +114,6 @@ module _ {D : Type 0} (content : D → Option (List ℕ)) (may_leave : D → Lis
   reached (Some told) asked w unread unwritten failed end disk after old new wanted says fresh moments writes late put sync =
       of_wanted (asked told) w unread unwritten failed end disk after old new wanted says fresh moments writes late put sync
 
-  -- no image is longer than the file of a key of height 10
-  pub no_longer : (old new : D) (id : List ℕ) (height : ℕ) → (height ≡ 5) ⊎ (height ≡ 10) → Formats content may_leave clock during id height old new
-      → (longest : ℕ) → ((image : List ℕ) → may_leave old image → length image ≤ longest) → AtEachMoment clock during old new (λ image. length image ≤ max longest (file_size 10))
-  no_longer old new id height tall formats longest all =
-      weakened may_leave clock during old new (λ image. length image ≤ max longest (file_size height)) (λ image. length image ≤ max longest (file_size 10)) (formats.lengths longest all)
-      (λ image short. fits (length image) short)
-    where
-      fits : (n : ℕ) → n ≤ max longest (file_size height) → n ≤ max longest (file_size 10)
-      fits n short = elim tall [
-        | inl is ↦ let at : n ≤ max longest (file_size 5) = subst (λ h. n ≤ max longest (file_size h)) is short in omega arith
-        | inr is ↦ subst (λ h. n ≤ max longest (file_size h)) is short
-      ]
-
   -- a disk that isn't touched
   formats_same : ((disk : D) (image : List ℕ) → during disk (clock disk) image → may_leave disk image) → (disk : D) (id : List ℕ) (height : ℕ) → Formats content may_leave clock during id height disk disk
   formats_same only disk id height = record {
@@ -168,99 +153,3 @@ module _ {D : Type 0} (content : D → Option (List ℕ)) (may_leave : D → Lis
           | Some file ↦ λ read put sync. inr is
         ];
       }
-
--- ## What is wanted
-
--- what the topology's text says of a lease is what the topology says
-same_asked : (told : List ℕ) (topo : Topology) (name : List ℕ) → topology_of told ≡ Ok topo → asked_of told name ≡ asked_in topo name
-same_asked told topo name given = ap (λ r. asked_over r name) given
-
-pub wanted_told : (t : Option (List ℕ)) (topo : Topology) (name : List ℕ) (r : Result Wanted Status) → IfSome t (λ told. topology_of told ≡ Ok topo) → IfOk r (IsWanted (asked_in topo name))
-    → IfOk r (λ w. IfSome t (λ told. IsWanted (asked_of told name) w))
-wanted_told t topo name (Err end) given wanted = tt
-wanted_told None topo name (Ok w) given wanted = tt
-wanted_told (Some told) topo name (Ok w) given wanted = subst (λ a. IsWanted a w) (sym (same_asked told topo name given)) wanted
-
-pub ended_told : (t : Option (List ℕ)) (topo : Topology) (name : List ℕ) (r : Result Wanted Status) → IfSome t (λ told. topology_of told ≡ Ok topo) → IfErr r (IsEarly (refusal_in (asked_in topo name)))
-    → IfErr r (λ end. IfSome t (λ told. IsEarly (refusal_in (asked_of told name)) end))
-ended_told t topo name (Ok w) given ended = tt
-ended_told None topo name (Err end) given ended = tt
-ended_told (Some told) topo name (Err end) given ended = subst (λ a. IsEarly (refusal_in a) end) (sym (same_asked told topo name given)) ended
-
--- a refused topology refuses each lease
-refused_over : (r : Result Topology TopoEnd) (name : List ℕ) (end : Status) → refusal_over r ≡ Some end → refusal_in (asked_over r name) ≡ Some end
-refused_over (Ok topo) name end is = absurd (cc)
-refused_over (Err (topo_end.Line line f)) name end is = is
-refused_over (Err topo_end.Memory) name end is = is
-
-pub refused_told : (t : Option (List ℕ)) (name : List ℕ) (end : Status) → IfSome t (λ told. IsEarly (refusal_of told) end) → IfSome t (λ told. IsEarly (refusal_in (asked_of told name)) end)
-refused_told None name end h = tt
-refused_told (Some told) name end (inl unread) = inl unread
-refused_told (Some told) name end (inr is) = inr (refused_over (topology_of told) name end is)
-
--- a wanted lease is refused by nothing
-unrefused : (asked : Asked) (w : Wanted) → IsWanted asked w → refusal_in asked ≡ None
-unrefused (Refused end) w wanted = absurd wanted
-unrefused (Keyed key) w wanted = refl
-
-pub wanted_passes : (t : Option (List ℕ)) (asked : List ℕ → Asked) (w : Wanted) → IfSome t (λ told. IsWanted (asked told) w) → IfSome t (λ told. refusal_in (asked told) ≡ None)
-wanted_passes None asked w wanted = tt
-wanted_passes (Some told) asked w wanted = unrefused (asked told) w wanted
-
--- ## Kinds of answers
-
--- an answer before the disk is touched belongs to a lease, and neither writes nor meets the disk
-pub record IsEarlyKind (end : Status) (leased : Leased) : Type 0 where
-  pub belongs : (kind_of end).answers (Some (Lease leased)) ≡ true
-  pub core : (kind_of end).gives_core (Some (Lease leased)) ≡ false
-
-pub early_kind : (end : Status) (leased : Leased) → IsBeforeDisk end → IsEarlyKind end leased
-early_kind status.ReadFault leased h = record { belongs = refl; core = refl }
-early_kind status.Memory leased h = record { belongs = refl; core = refl }
-early_kind (status.Topology line f) leased h = record { belongs = refl; core = refl }
-early_kind (status.Lease fault.Unknown) leased h = record { belongs = refl; core = refl }
-early_kind (status.Lease fault.Keyless) leased h = record { belongs = refl; core = refl }
-early_kind (status.Lease (fault.Already id height)) leased h = absurd h
-early_kind status.Done leased h = absurd h
-early_kind status.Usage leased h = absurd h
-early_kind status.WriteFault leased h = absurd h
-early_kind (status.Schedule line f) leased h = absurd h
-early_kind status.DiskFault leased h = absurd h
-early_kind status.Unbuilt leased h = absurd h
-
-pub opening_is_early : (end : Status) → IsOpeningEnd end → IsBeforeDisk end
-opening_is_early status.ReadFault h = tt
-opening_is_early (status.Topology line f) h = tt
-opening_is_early status.Memory h = tt
-opening_is_early status.Done h = absurd h
-opening_is_early status.Usage h = absurd h
-opening_is_early status.WriteFault h = absurd h
-opening_is_early (status.Schedule line f) h = absurd h
-opening_is_early status.DiskFault h = absurd h
-opening_is_early (status.Lease f) h = absurd h
-opening_is_early status.Unbuilt h = absurd h
-
--- an answer behind the disk refuses nothing, meets the disk, and writes only where the file was formatted
-pub record IsLateKind (end : Status) (leased : Leased) : Type 0 where
-  pub passes : (kind_of end).refuses ≡ false
-  pub core : (kind_of end).gives_core (Some (Lease leased)) ≡ false
-  pub meets : (kind_of end).meets_disk (Some (Lease leased)) ≡ true
-  pub writes : (kind_of end).writes (Some (Lease leased)) ≡ false → IsFormatted end → ⊥
-
-pub late_kind : (end : Status) (leased : Leased) → (kind_of end).answers (Some (Lease leased)) ≡ true → (IsBeforeDisk end → ⊥) → IsLateKind end leased
-late_kind status.Done leased belongs late = record { passes = refl; core = refl; meets = refl; writes = λ no done. cc }
-late_kind status.WriteFault leased belongs late = record { passes = refl; core = refl; meets = refl; writes = λ no done. cc }
-late_kind status.DiskFault leased belongs late = record { passes = refl; core = refl; meets = refl; writes = λ no done. done }
-late_kind (status.Lease (fault.Already id height)) leased belongs late = record { passes = refl; core = refl; meets = refl; writes = λ no done. done }
-late_kind (status.Lease fault.Unknown) leased belongs late = absurd (late tt)
-late_kind (status.Lease fault.Keyless) leased belongs late = absurd (late tt)
-late_kind status.ReadFault leased belongs late = absurd (late tt)
-late_kind status.Memory leased belongs late = absurd (late tt)
-late_kind (status.Topology line f) leased belongs late = absurd (late tt)
-late_kind status.Usage leased belongs late = absurd (cc)
-late_kind (status.Schedule line f) leased belongs late = absurd (cc)
-late_kind status.Unbuilt leased belongs late = absurd (cc)
-
--- an early end is no fault of writing, and none of the disk
-pub no_fault : (end fault : Status) (count : ℕ) → (IsBeforeDisk fault → ⊥) → IsBeforeDisk end → HasCause (end ≡ fault) count count
-no_fault end fault count late early = record { never_falls = omega arith; rose = λ is. absurd (late (subst IsBeforeDisk is early)); stays = λ fine. refl }

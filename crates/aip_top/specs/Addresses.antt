@@ -7,9 +7,7 @@ use Rattle.aip_topo.specs.declared.topology.Router.{Router}
 use Rattle.aip_topo.specs.declared.topology.Part.{Part}
 use Rattle.aip_topo.specs.declared.topology.Part.TheVariants.{Host, Link}
 use Rattle.aip_topo.specs.declared.topology.Topology.{Topology}
-use Rattle.aip_topo.specs.declared.faults.TopoEnd.{TopoEnd}
-use Rattle.aip_topo.specs.declared.faults.TopoEnd.TheVariants as topo_end
-use Rattle.aip_topo.specs.Reading.{topology_of}
+use Rattle.aip_topo.specs.Reading.{RefusedLine, topology_of}
 use Rattle.aip_rules.specs.Nodes.{host_address}
 use Rattle.aip_top.specs.Judged.{refusal_of}
 use Rattle.aip_top.specs.declared.status.Status.{Status}
@@ -39,19 +37,18 @@ addresses_of topo =
     flat_map ad_line topo.domains ++ (flat_map router_line topo.routers ++ flat_map (part_line topo.routers) topo.parts)
 
 -- what is written for what a topology text gives; nothing where it is refused
-abbrev pub addresses_over : Result Topology TopoEnd → List ℕ
+abbrev pub addresses_over : Result Topology RefusedLine → List ℕ
 addresses_over (Ok topo) = addresses_of topo
-addresses_over (Err end) = []
+addresses_over (Err refused) = []
 
 -- what is written for a topology text
 abbrev pub addresses_in : List ℕ → List ℕ
 addresses_in text = addresses_over (topology_of text)
 
 -- how the writing of what a topology text gives ends
-abbrev pub address_end_over : Result Topology TopoEnd → Status
+abbrev pub address_end_over : Result Topology RefusedLine → Status
 address_end_over (Ok topo) = status.Done
-address_end_over (Err (topo_end.Line line f)) = status.Topology line f
-address_end_over (Err topo_end.Memory) = status.Memory
+address_end_over (Err refused) = status.Topology refused.line refused.fault
 
 -- how it ends for a topology text
 abbrev pub address_end : List ℕ → Status

@@ -1,9 +1,7 @@
 -- What a topology text by itself says of the end of a command.
 use Rattle.std.specs.Prelude.{◌≡◌, ◌⊎◌, ℕ, ⊤, true, List, Option, Some, None, IfSome, option_map, Result, Ok, Err}
 use Rattle.aip_topo.specs.declared.topology.Topology.{Topology}
-use Rattle.aip_topo.specs.declared.faults.TopoEnd.{TopoEnd}
-use Rattle.aip_topo.specs.declared.faults.TopoEnd.TheVariants as topo_end
-use Rattle.aip_topo.specs.Reading.{topology_of}
+use Rattle.aip_topo.specs.Reading.{RefusedLine, topology_of}
 use Rattle.aip_sim.specs.Judged.{end_by as run_end_by}
 use Rattle.aip_top.specs.Words.{Command, Run, Address, Lease}
 use Rattle.aip_top.specs.Leasing.{refusal_in, asked_of}
@@ -12,10 +10,9 @@ use Rattle.aip_top.specs.declared.status.Status.{Status}
 use Rattle.aip_top.specs.declared.status.Status.TheVariants as status
 
 -- the status that refuses what a topology text gives: a refused line
-abbrev pub refusal_over : Result Topology TopoEnd → Option Status
+abbrev pub refusal_over : Result Topology RefusedLine → Option Status
 refusal_over (Ok topo) = None
-refusal_over (Err (topo_end.Line line f)) = Some (status.Topology line f)
-refusal_over (Err topo_end.Memory) = Some status.Memory
+refusal_over (Err refused) = Some (status.Topology refused.line refused.fault)
 
 -- the status that refuses a topology text
 abbrev pub refusal_of : List ℕ → Option Status

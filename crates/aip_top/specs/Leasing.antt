@@ -13,9 +13,7 @@ use Rattle.aip_topo.specs.declared.topology.Domain.{Domain}
 use Rattle.aip_topo.specs.declared.topology.Key as topo
 use Rattle.aip_topo.specs.declared.topology.Key.TheVariants as key
 use Rattle.aip_topo.specs.declared.topology.Topology.{Topology}
-use Rattle.aip_topo.specs.declared.faults.TopoEnd.{TopoEnd}
-use Rattle.aip_topo.specs.declared.faults.TopoEnd.TheVariants as topo_end
-use Rattle.aip_topo.specs.Reading.{topology_of}
+use Rattle.aip_topo.specs.Reading.{RefusedLine, topology_of}
 use Rattle.aip_top.specs.Words.{Leased}
 use Rattle.aip_top.specs.declared.status.Status.{Status}
 use Rattle.aip_top.specs.declared.status.Status.TheVariants as status
@@ -42,10 +40,9 @@ asked_in t name = asked_of_domain (find (λ (domain : Domain). bytes_eq domain.n
 
 -- a lease for the domain of a name, by what a topology text gives: a refused line, an unknown domain, a domain without a
 -- key, or else its key
-abbrev pub asked_over : Result Topology TopoEnd → List ℕ → Asked
+abbrev pub asked_over : Result Topology RefusedLine → List ℕ → Asked
 asked_over (Ok t) name = asked_in t name
-asked_over (Err (topo_end.Line line f)) name = Refused (status.Topology line f)
-asked_over (Err topo_end.Memory) name = Refused status.Memory
+asked_over (Err refused) name = Refused (status.Topology refused.line refused.fault)
 
 -- the same by the topology text
 abbrev pub asked_of : List ℕ → List ℕ → Asked

@@ -1,4 +1,4 @@
-use Rattle.std.proofs.Common.{◌≡◌, ℕ, ◌≤◌, ◌-◌, List, [], true}
+use Rattle.std.proofs.Common.{◌≡◌, ℕ, ◌≤◌, ◌-◌, List, []}
 use Rattle.std.specs.Prelude.{IfSome}
 use Rattle.aip_text.specs.Lines.{lines_of}
 use Rattle.aip_io.specs.Lines.{left_of}
@@ -12,7 +12,6 @@ use Rattle.aip_sim.proofs.runs.play.Given as goal
 abbrev pub invariant-turns : goal.invariant-turns
 invariant-turns g l = record {
   few : l.number ≤ 65537;
-  more : l.lines.more ≡ true;
   most : l.lines.most ≡ 20000;
   text : (other : List ℕ) → g.S.Shelf.text l.shelf other ≡ g.S.Shelf.text l.fn.shelf other;
   reads : (other : List ℕ) → g.S.Shelf.faults l.shelf other ≡ g.S.Shelf.faults l.fn.shelf other;
