@@ -1,5 +1,5 @@
 // The lines of a text that is read piece by piece.
-ghost use Rattle.std.specs.Prelude.{◌≡◌, ◌≢◌, ◌↔◌, ◌<◌, ◌≤◌, ◌+◌, ◌-◌, ◌^◌, ◌++◌, ℕ, List, [], length, take, drop, slice_range, vec_len, true, false, ◌&&◌, IsTrue, IsSome, IfSome, IfNone, IfOk, OnOk, OnErr, MatchOption};
+ghost use Rattle.std.specs.Prelude.{◌≡◌, ◌≢◌, ◌⊎◌, ◌↔◌, ◌<◌, ◌≤◌, ◌+◌, ◌-◌, ◌^◌, ◌++◌, ℕ, List, [], length, take, drop, slice_range, vec_len, true, false, ◌&&◌, IsTrue, IsSome, IfSome, IfNone, IfOk, OnOk, OnErr, MatchOption};
 ghost use Rattle.aip_text.specs.Lines.{has_no_line_feed};
 ghost use Rattle.aip_io.specs.Causes.{Rose};
 ghost use Rattle.aip_io.specs.Lines.{Gives, has_line, left_of, new_lines, turns_of};
@@ -159,6 +159,10 @@ impl Lines {
         ensures one_line { has_no_line_feed self.new.line ≡ true }
         ensures none { has_line result ≡ false → self.new.line ≡ [] }
 
+        // It reads only where what is kept holds no line feed and has no more bytes than a line may have.
+        ensures unread { (has_no_line_feed self.old.kept ≡ false) ⊎ (self.old.most < length self.old.kept)
+            → shelf.new ≡ shelf.old }
+
         // It fails by a fault at this name alone.
         ensures text { (other : List ℕ) → S.text shelf.new other ≡ S.text shelf.old other }
         ensures failed { result ≡ Got.Failed → Rose (S.faults shelf.old name.now) (S.faults shelf.new name.now) }
@@ -230,6 +234,8 @@ impl Lines {
         ensures left { IfSome (S.text shelf.old name.now) (λ told. left_of told self.new ≡ left_of told self.old) }
         ensures ended { IfOk result (λ found. IfNone found (length self.new.kept ≤ self.new.most
             → IfSome (S.text shelf.old name.now) (λ told. drop self.new.at told ≡ []))) }
+        ensures unread { (has_no_line_feed self.old.kept ≡ false) ⊎ (self.old.most < length self.old.kept)
+            → shelf.new ≡ shelf.old }
         ensures turns { turns_of self.new ≡ turns_of self.old }
         ensures most { self.new.most ≡ self.old.most }
         ensures more { self.new.more ≡ self.old.more }
@@ -240,7 +246,32 @@ impl Lines {
         ensures others { (other : List ℕ) → other ≢ name.now → IsSome (S.text shelf.old other)
             → S.faults shelf.new other ≡ S.faults shelf.old other }
     {
-        let mut found = first_line_feed(self.kept(), 0);
+        let found = first_line_feed(self.kept(), 0);
+        if found.is_some() || !self.is_short() {
+            return Ok(found);
+        }
+        self.read_until(shelf, name)
+    }
+
+    // The same, where what is kept has no line feed and is no more than a line may have.
+    fn read_until<S: Shelf>(&mut self, shelf: &mut S, name: &str) -> Result<Option<usize>, Failed>
+        requires none { has_no_line_feed self.old.kept ≡ true }
+        requires short { length self.old.kept ≤ self.old.most }
+        ensures found { IfOk result (λ found. MatchOption found (has_no_line_feed self.new.kept ≡ true) (IsFeed self.new.kept)) }
+        ensures left { IfSome (S.text shelf.old name.now) (λ told. left_of told self.new ≡ left_of told self.old) }
+        ensures ended { IfOk result (λ found. IfNone found (length self.new.kept ≤ self.new.most
+            → IfSome (S.text shelf.old name.now) (λ told. drop self.new.at told ≡ []))) }
+        ensures turns { turns_of self.new ≡ turns_of self.old }
+        ensures most { self.new.most ≡ self.old.most }
+        ensures more { self.new.more ≡ self.old.more }
+        ensures text { (other : List ℕ) → S.text shelf.new other ≡ S.text shelf.old other }
+        ensures failed { OnErr result (Rose (S.faults shelf.old name.now) (S.faults shelf.new name.now)) }
+        ensures fine { OnOk result ((other : List ℕ) → S.faults shelf.new other ≡ S.faults shelf.old other) }
+        ensures never_falls { (other : List ℕ) → S.faults shelf.old other ≤ S.faults shelf.new other }
+        ensures others { (other : List ℕ) → other ≢ name.now → IsSome (S.text shelf.old other)
+            → S.faults shelf.new other ≡ S.faults shelf.old other }
+    {
+        let mut found = None;
         'reads: while found.is_none() && self.is_short() {
             let searched = self.kept().len();
             if self.read_on(shelf, name)? == 0 {

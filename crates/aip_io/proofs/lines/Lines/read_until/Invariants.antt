@@ -2,7 +2,7 @@ use Rattle.std.proofs.Common.{◌≡◌, ◌+◌, ◌-◌, ℕ, List, length, tr
 use Rattle.aip_text.specs.Lines.{has_no_line_feed}
 use Rattle.aip_io.specs.Feeds.{IsFeed}
 use Rattle.aip_io.specs.Lines.{left_of, turns_of}
-use Rattle.aip_io.proofs.lines.Lines.find.Given as goal
+use Rattle.aip_io.proofs.lines.Lines.read_until.Given as goal
 
 abbrev pub invariant-reads : goal.invariant-reads
 invariant-reads g l = record {
