@@ -62,7 +62,7 @@ fn tell(rt: &impl Eprint, status: Status) -> io::Result<()> {
     }
 }
 
-// Obeys the words. The disk that comes back isn't needed any more.
+// Obeys the words. The disk and the core that come back aren't needed any more.
 fn obeyed<R: Env + AllocGlobal + Files + Print>(
     rt: &R,
     words: &[String],
@@ -70,7 +70,7 @@ fn obeyed<R: Env + AllocGlobal + Files + Print>(
     let mut shelf = DirShelf::new(rt);
     let mut out = StdSink::new(rt);
     let disk = FileDisk::new(rt, lease_path(rt, words)?);
-    let (status, _) = aip(rt.alloc(), words, &mut shelf, &mut out, disk);
+    let (status, _, _) = aip(rt.alloc(), words, &mut shelf, &mut out, disk);
     Ok(status)
 }
 

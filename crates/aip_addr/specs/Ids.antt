@@ -1,5 +1,6 @@
 -- Ids, key identifiers and addresses.
-use Rattle.std.specs.Prelude.{◌≡◌, ℕ, List, [], ◌∷◌, ◌++◌, take, drop, slice_index}
+use Rattle.std.specs.Prelude.{◌≡◌, ◌==◌, ◌&&◌, ℕ, Bool, List, [], ◌∷◌, ◌++◌, take, drop, slice_index}
+use Rattle.std.specs.Str.{bytes_eq}
 use Rattle.sha2.specs.Sha256.{sha256}
 use Rattle.aip_addr.specs.declared.ids.Id.{Id}
 use Rattle.aip_addr.specs.declared.ids.KeyId.{KeyId}
@@ -21,6 +22,10 @@ id_of_router name = record { bytes = id_bytes 0 (sha256 (codes "aip router" ++ n
 -- the key identifier of an id: all but its interface byte
 abbrev pub key_id_of : Id → KeyId
 key_id_of id = record { bytes = take 19 id.bytes }
+
+-- whether the key owns the id: the id's version is 1, and its hash begins the key's
+abbrev pub is_owner : List ℕ → Id → Bool
+is_owner key id = (slice_index id.bytes 0 == 1) && bytes_eq (take 18 (drop 1 id.bytes)) (take 18 (sha256 key))
 
 -- the key owns the id: the id's version is 1, and its hash begins the key's
 abbrev pub Owns : List ℕ → Id → Type 0

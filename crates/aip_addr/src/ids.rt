@@ -1,5 +1,5 @@
 ghost use Rattle.std.specs.Prelude.{◌≡◌, ◌↔◌, length, IsTrue, IsSome, IfSome};
-ghost use Rattle.aip_addr.specs.Ids.{id_bytes, Owns};
+ghost use Rattle.aip_addr.specs.Ids.{id_bytes, is_owner, Owns};
 
 use crate::names::Name;
 use sha2::{Digest, Sha256};
@@ -71,7 +71,8 @@ fn hashed_id(version: u8, hash: &[u8; 32], iface: u8) -> Id
 /// Whether the public key of 56 bytes owns the id: the id's version is 1, and its 18 bytes of hash
 /// are the first of the key's SHA-256. The interface byte isn't read.
 pub fn owns(key: &[u8; 56], id: &Id) -> bool
-    ensures { IsTrue result ↔ Owns key.now id.now }
+    ensures owns { IsTrue result ↔ Owns key.now id.now }
+    ensures value { result ≡ is_owner key.now id.now }
 {
     let hash = Sha256::digest(key);
     id.bytes[0] == 1 && id.bytes[1..19] == hash[..18]

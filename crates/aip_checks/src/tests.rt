@@ -13,10 +13,10 @@ const TOPOLOGY: &[u8] =
     b"domain d id 0111111111111111111111111111111111111100\nrouter r d open 0000000000000000000000000000000000000000000000000000000000000000\nhost a r plain id 01aaaaaaaaaaaaaaaaaaaaaaaaaaaaaaaaaaaa00\nhost b r plain id 01bbbbbbbbbbbbbbbbbbbbbbbbbbbbbbbbbbbb00\n";
 
 // One packet from a to b.
-const SCHEDULE: &[u8] = b"send a b 7 6869\ndeliver 0\ndeliver 1\n";
+pub const SCHEDULE: &[u8] = b"send a b 7 6869\ndeliver 0\ndeliver 1\n";
 
 // Its trace, as an independent implementation gives it.
-const TRACE: &[u8] =
+pub const TRACE: &[u8] =
     b"> send a b 7 6869\n< put 0 r/0 0100400000000007011111111111111111111111111111111111110001bbbbbbbbbbbbbbbbbbbbbbbbbbbbbbbbbbbb00011111111111111111111111111111111111110001aaaaaaaaaaaaaaaaaaaaaaaaaaaaaaaaaaaa0000026869\n> deliver 0\n< forward r 0 1 open\n< put 1 b 01003f0000000007011111111111111111111111111111111111110001bbbbbbbbbbbbbbbbbbbbbbbbbbbbbbbbbbbb00011111111111111111111111111111111111110001aaaaaaaaaaaaaaaaaaaaaaaaaaaaaaaaaaaa0000026869\n> deliver 1\n< got b 7\n";
 
 fn file(alloc: Global, name: &str, bytes: &[u8]) -> Result<File, AllocError> {
@@ -26,14 +26,14 @@ fn file(alloc: Global, name: &str, bytes: &[u8]) -> Result<File, AllocError> {
     })
 }
 
-fn files(alloc: Global, schedule: &[u8]) -> Result<Vec<File>, AllocError> {
+pub fn files(alloc: Global, schedule: &[u8]) -> Result<Vec<File>, AllocError> {
     let mut files = Vec::new(alloc);
     files.push(file(alloc, "topo.txt", TOPOLOGY)?)?;
     files.push(file(alloc, "sched.txt", schedule)?)?;
     Ok(files)
 }
 
-fn words(alloc: Global, line: &[&str]) -> Result<Vec<String>, AllocError> {
+pub fn words(alloc: Global, line: &[&str]) -> Result<Vec<String>, AllocError> {
     let mut words = Vec::new(alloc);
     for word in line {
         words.push(String::from_str(alloc, word)?)?;
@@ -42,12 +42,12 @@ fn words(alloc: Global, line: &[&str]) -> Result<Vec<String>, AllocError> {
 }
 
 // A disk of which the call of this number fails.
-fn disk(alloc: Global, call: u64) -> Result<MemDisk, AllocError> {
+pub fn disk(alloc: Global, call: u64) -> Result<MemDisk, AllocError> {
     MemDisk::new(alloc, 100, one(alloc, call)?)
 }
 
 // A list of one number, or of none where it is 0.
-fn one(alloc: Global, number: u64) -> Result<Vec<u64>, AllocError> {
+pub fn one(alloc: Global, number: u64) -> Result<Vec<u64>, AllocError> {
     let mut numbers = Vec::new(alloc);
     if number > 0 {
         numbers.push(number)?;
@@ -65,7 +65,7 @@ fn outcome(
     let mut shelf = MemShelf::new(alloc, files(alloc, schedule)?, one(alloc, read)?, 64)?;
     let mut sink = MemSink::new(alloc, 4096, one(alloc, put)?, 100)?;
     let words = words(alloc, &["run", "topo.txt", "sched.txt"])?;
-    let (status, _) = aip(alloc, &words, &mut shelf, &mut sink, disk(alloc, 0)?);
+    let (status, _, _) = aip(alloc, &words, &mut shelf, &mut sink, disk(alloc, 0)?);
     Ok((status, sink))
 }
 
@@ -88,7 +88,7 @@ fn each_read_fails_in_turn(rt: HostRuntime) -> Result<(), Fail> {
             break;
         }
         assert_eq!(rt; status, Status::ReadFault);
-        assert!(rt; sink.taken().is_empty());
+        assert!(rt; TRACE.starts_with(sink.taken()));
     }
     // Four pieces of 64 bytes, one of the schedule, and an end of each.
     assert_eq!(rt; faults, 7);
@@ -108,8 +108,8 @@ fn each_put_fails_in_turn(rt: HostRuntime) -> Result<(), Fail> {
         assert_eq!(rt; status, Status::WriteFault);
         assert!(rt; TRACE.starts_with(sink.taken()));
     }
-    // The 465 bytes go in pieces of 100.
-    assert_eq!(rt; faults, 5);
+    // The 215, 228 and 22 bytes of the three steps go in pieces of 100.
+    assert_eq!(rt; faults, 7);
     Ok(())
 }
 
@@ -119,7 +119,7 @@ fn the_second_put_of_five_bytes_fails(rt: HostRuntime) -> Result<(), Fail> {
     let mut shelf = MemShelf::new(alloc, files(alloc, SCHEDULE)?, Vec::new(alloc), 64)?;
     let mut sink = MemSink::new(alloc, 4096, one(alloc, 2)?, 5)?;
     let words = words(alloc, &["run", "topo.txt", "sched.txt"])?;
-    let (status, _) = aip(alloc, &words, &mut shelf, &mut sink, disk(alloc, 0)?);
+    let (status, _, _) = aip(alloc, &words, &mut shelf, &mut sink, disk(alloc, 0)?);
     assert_eq!(rt; status, Status::WriteFault);
     assert_eq!(rt; sink.taken(), b"> sen".as_slice());
     Ok(())
@@ -168,7 +168,7 @@ fn absent_files_and_other_words(rt: HostRuntime) -> Result<(), Fail> {
     ];
     for (line, expected) in lines {
         let words = words(alloc, line)?;
-        let (status, after) = aip(alloc, &words, &mut shelf, &mut sink, disk(alloc, 0)?);
+        let (status, after, _) = aip(alloc, &words, &mut shelf, &mut sink, disk(alloc, 0)?);
         assert_eq!(rt; status, expected);
         assert!(rt; after.bytes().is_empty());
     }
@@ -201,7 +201,7 @@ fn leased(
     let mut shelf = MemShelf::new(alloc, files, Vec::new(alloc), 64)?;
     let mut sink = MemSink::new(alloc, 4096, one(alloc, put)?, 100)?;
     let words = words(alloc, &["lease", "topo.txt", domain])?;
-    let (status, disk) = aip(alloc, &words, &mut shelf, &mut sink, disk);
+    let (status, disk, _) = aip(alloc, &words, &mut shelf, &mut sink, disk);
     Ok((status, disk, sink))
 }
 

@@ -1,15 +1,16 @@
 -- Inputs and their lines: what is read is spelled so, and what is spelled so is read.
-use Rattle.std.proofs.Common.{◌≡◌, ℕ, true, List, ◌∷◌, ◌++◌, Option, Some, None, Result, Ok, Err, refl, sym, ap, ◌∙◌}
-use Rattle.std.specs.Prelude.{IfNone, IfOk, IfSome, codes, decimal}
+use Rattle.std.proofs.Common.{◌≡◌, ℕ, true, List, ◌∷◌, ◌++◌, Option, Some, None, refl, sym, ap, ◌∙◌}
+use Rattle.std.specs.Prelude.{IfSome, codes, decimal}
 use Rattle.std.proofs.lemmas.Option.{none-some}
 use Rattle.aip_text.specs.Words.{bytes_word, cut, lacks}
 use Rattle.aip_text.proofs.Texts.{cut_at_again, cut_at_found}
 use Rattle.aip_event.specs.Lines.{IsInput, input_line, target_word}
-use Rattle.aip_event.specs.Reading.{cut_of, deliver_of, inject_of, input_from, input_of, mend_of, raw_of, restart_of, send_of, shutoff_of, stop_of, tick_of}
+use Rattle.aip_event.specs.Reading.{cut_of, deliver_of, halt_of, inject_of, input_from, input_of, mend_of, publish_of, raw_of, restart_of, send_of, shutoff_of, stop_of, tick_of}
 use Rattle.aip_event.specs.declared.input.Input.{Input}
 use Rattle.aip_event.specs.declared.input.Input.TheVariants as input
-use Rattle.aip_event.proofs.FieldLaws.{bytes_field, name_field, number_field, target_field}
-use Rattle.aip_event.proofs.LineForms.{bind_at, bind_some, branch, four_again, four_found, one_again, one_found, three_again, three_found, two_again, two_found}
+use Rattle.aip_event.proofs.FieldLaws.{target_field}
+use Rattle.aip_text.proofs.FieldLaws.{bytes_field, name_field, number_field}
+use Rattle.aip_text.proofs.LineForms.{bind_at, bind_some, branch, four_again, four_found, one_again, one_found, three_again, three_found, two_again, two_found}
 
 -- the first word and the rest are the line of a well-formed input
 abbrev IsLineOf : List ℕ → List ℕ → Input → Type 0
@@ -60,6 +61,15 @@ unfolding stop_of
 stop_found = three_found name_field number_field number_field (λ h c b. input.Stop h c b) (λ r i. IsLineOf r (codes "stop") i)
     (λ x y z hx hy hz. ((hx, hy, hz), refl))
 
+halt_found : (rest : List ℕ) (i : Input) → halt_of rest ≡ Some i → IsLineOf rest (codes "halt") i
+unfolding halt_of
+halt_found = three_found name_field number_field number_field (λ h c b. input.Halt h c b) (λ r i. IsLineOf r (codes "halt") i)
+    (λ x y z hx hy hz. ((hx, hy, hz), refl))
+
+publish_found : (rest : List ℕ) (i : Input) → publish_of rest ≡ Some i → IsLineOf rest (codes "publish") i
+unfolding publish_of
+publish_found = one_found bytes_field (λ bytes. input.Publish bytes) (λ r i. IsLineOf r (codes "publish") i) (λ x hx. (hx, refl))
+
 from_found : (key rest : List ℕ) (i : Input) → input_from key rest ≡ Some i → IsLineOf rest key i
 unfolding input_from
 from_found key rest i =
@@ -72,7 +82,9 @@ from_found key rest i =
     (branch (IsLineOf rest) key (codes "mend") (mend_of rest) _ i (mend_found rest i)
     (branch (IsLineOf rest) key (codes "shutoff") (shutoff_of rest) _ i (shutoff_found rest i)
     (branch (IsLineOf rest) key (codes "restart") (restart_of rest) _ i (restart_found rest i)
-    (branch (IsLineOf rest) key (codes "stop") (stop_of rest) None i (stop_found rest i) (λ h. absurd (none-some i h)))))))))))
+    (branch (IsLineOf rest) key (codes "stop") (stop_of rest) _ i (stop_found rest i)
+    (branch (IsLineOf rest) key (codes "halt") (halt_of rest) _ i (halt_found rest i)
+    (branch (IsLineOf rest) key (codes "publish") (publish_of rest) None i (publish_found rest i) (λ h. absurd (none-some i h)))))))))))))
 
 -- what a line is read as is well formed, and has that line
 pub input_found : (line : List ℕ) (i : Input) → input_of line ≡ Some i → IsInput i × (line ≡ input_line i)
@@ -91,7 +103,7 @@ opened key rest plain = bind_at (λ parts. input_from parts.0 parts.1) (cut_at_a
 
 -- the line of a well-formed input is read as that input
 pub input_again : (i : Input) → IsInput i → input_of (input_line i) ≡ Some i
-unfolding input_from tick_of send_of raw_of deliver_of inject_of cut_of mend_of shutoff_of restart_of stop_of
+unfolding input_from tick_of send_of raw_of deliver_of inject_of cut_of mend_of shutoff_of restart_of stop_of halt_of publish_of
 input_again (input.Tick n) h = opened (codes "tick") (decimal n) refl ∙ one_again number_field (λ x. input.Tick x) n h
 input_again (input.Send host node packet body) h =
     opened (codes "send") (host ++ 32 ∷ node ++ 32 ∷ decimal packet ++ 32 ∷ bytes_word body) refl
@@ -110,17 +122,16 @@ input_again (input.Restart node) h = opened (codes "restart") node refl ∙ one_
 input_again (input.Stop host call byte) h =
     opened (codes "stop") (host ++ 32 ∷ decimal call ++ 32 ∷ decimal byte) refl
     ∙ three_again name_field number_field number_field (λ a c b. input.Stop a c b) host call byte h.0 h.1 h.2
+input_again (input.Halt host call byte) h =
+    opened (codes "halt") (host ++ 32 ∷ decimal call ++ 32 ∷ decimal byte) refl
+    ∙ three_again name_field number_field number_field (λ a c b. input.Halt a c b) host call byte h.0 h.1 h.2
+input_again (input.Publish bytes) h = opened (codes "publish") (bytes_word bytes) refl ∙ one_again bytes_field (λ x. input.Publish x) bytes h
 
 -- ## As the reader's clauses say it
-
-pub ok_then : {X E : Type 0} (r : Result X E) {P Q : X → Type 0} → IfOk r P → ((x : X) → P x → Q x) → IfOk r Q
-ok_then (Ok x) h f = f x h
-ok_then (Err e) h f = tt
 
 pub input_found_in : (line : List ℕ) (r : Option Input) → r ≡ input_of line → IfSome r (λ i. IsInput i × (line ≡ input_line i))
 input_found_in line (Some i) e = input_found line i (sym e)
 input_found_in line None e = tt
 
-pub input_none_in : (line : List ℕ) (r : Option Input) → r ≡ input_of line → IfNone r ((i : Input) → IsInput i → line ≡ input_line i → ⊥)
-input_none_in line (Some i) e = tt
-input_none_in line None e = λ i h spelled. none-some i (e ∙ ap input_of spelled ∙ input_again i h)
+pub input_again_in : (line : List ℕ) (r : Option Input) → r ≡ input_of line → (i : Input) → IsInput i → line ≡ input_line i → r ≡ Some i
+input_again_in line r e i h spelled = e ∙ ap input_of spelled ∙ input_again i h

@@ -1,4 +1,3 @@
-pub mod LineForms
 pub mod FieldLaws
 pub mod InputLaws
 pub mod EventLaws

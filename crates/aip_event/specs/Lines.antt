@@ -2,9 +2,9 @@
 use Rattle.std.specs.Prelude.{ℕ, ◌≡◌, ◌<◌, ◌^◌, List, ◌∷◌, ◌++◌, length, codes, decimal, ⊤}
 use Rattle.hex.specs.Hex.{IsBytes, encode_lower}
 use Rattle.aip_addr.specs.Naming.{IsName}
-use Rattle.aip_addr.specs.declared.ids.Id.{Id}
 use Rattle.aip_addr.specs.declared.ids.KeyId.{KeyId}
 use Rattle.aip_addr.specs.declared.ids.Address.{Address}
+use Rattle.aip_text.specs.Fields.{IsId, id_word}
 use Rattle.aip_text.specs.Words.{bytes_word}
 use Rattle.aip_event.specs.declared.input.Target.{Target}
 use Rattle.aip_event.specs.declared.input.Target.TheVariants as target
@@ -48,10 +48,6 @@ reason_word reason.Dry = codes "dry"
 reason_word reason.Kind = codes "kind"
 reason_word reason.Unguarded = codes "unguarded"
 
--- an id in hex, of 40 digits
-abbrev pub id_word : Id → List ℕ
-id_word id = encode_lower id.bytes
-
 -- a key identifier in hex, of 38 digits
 abbrev pub key_id_word : KeyId → List ℕ
 key_id_word id = encode_lower id.bytes
@@ -72,6 +68,8 @@ input_line (input.Mend link) = codes "mend" ++ 32 ∷ decimal link
 input_line (input.Shutoff host flight ttl) = codes "shutoff" ++ 32 ∷ host ++ 32 ∷ decimal flight ++ 32 ∷ decimal ttl
 input_line (input.Restart node) = codes "restart" ++ 32 ∷ node
 input_line (input.Stop host call byte) = codes "stop" ++ 32 ∷ host ++ 32 ∷ decimal call ++ 32 ∷ decimal byte
+input_line (input.Halt host call byte) = codes "halt" ++ 32 ∷ host ++ 32 ∷ decimal call ++ 32 ∷ decimal byte
+input_line (input.Publish bytes) = codes "publish" ++ 32 ∷ bytes_word bytes
 
 -- the line of an event
 abbrev pub event_line : Event → List ℕ
@@ -88,14 +86,19 @@ event_line (event.Stopped host leaf call byte) = codes "stopped" ++ 32 ∷ host 
 event_line (event.Withheld host to) = codes "withheld" ++ 32 ∷ host ++ 32 ∷ key_id_word to
 event_line (event.Obeyed host sender until) = codes "obeyed" ++ 32 ∷ host ++ 32 ∷ key_id_word sender ++ 32 ∷ decimal until
 event_line (event.Heard host number) = codes "heard" ++ 32 ∷ host ++ 32 ∷ decimal number
+event_line (event.Halted host sender until call byte) = codes "halted" ++ 32 ∷ host ++ 32 ∷ key_id_word sender ++ 32 ∷ decimal until ++ 32 ∷ decimal call ++ 32 ∷ decimal byte
+event_line (event.Kept host sender until) = codes "kept" ++ 32 ∷ host ++ 32 ∷ key_id_word sender ++ 32 ∷ decimal until
+event_line (event.PublishedPeer ad other number until) = codes "published peer" ++ 32 ∷ id_word ad ++ 32 ∷ id_word other ++ 32 ∷ decimal number ++ 32 ∷ decimal until
+event_line (event.PublishedBind ad other number until) = codes "published bind" ++ 32 ∷ id_word ad ++ 32 ∷ id_word other ++ 32 ∷ decimal number ++ 32 ∷ decimal until
+event_line (event.Unpublished number) = codes "unpublished" ++ 32 ∷ decimal number
 
 -- a number of at most 15 digits
 abbrev pub IsNumber : ℕ → Type 0
 IsNumber n = n < 10 ^ 15
 
--- an id of 20 bytes
-abbrev pub IsId : Id → Type 0
-IsId id = (length id.bytes ≡ 20) × IsBytes id.bytes
+-- a number that fits in 64 bits
+abbrev pub IsLongNumber : ℕ → Type 0
+IsLongNumber n = n < 2 ^ 64
 
 -- a key identifier of 19 bytes
 abbrev pub IsKeyId : KeyId → Type 0
@@ -118,6 +121,8 @@ IsInput (input.Mend link) = IsNumber link
 IsInput (input.Shutoff host flight ttl) = IsName host × IsNumber flight × IsNumber ttl
 IsInput (input.Restart node) = IsName node
 IsInput (input.Stop host call byte) = IsName host × IsNumber call × IsNumber byte
+IsInput (input.Halt host call byte) = IsName host × IsNumber call × IsNumber byte
+IsInput (input.Publish bytes) = IsBytes bytes
 
 -- an event whose words are of the grammar
 abbrev pub IsEvent : Event → Type 0
@@ -134,3 +139,8 @@ IsEvent (event.Stopped host leaf call byte) = IsName host × IsNumber leaf × Is
 IsEvent (event.Withheld host to) = IsName host × IsKeyId to
 IsEvent (event.Obeyed host sender until) = IsName host × IsKeyId sender × IsNumber until
 IsEvent (event.Heard host number) = IsName host × IsNumber number
+IsEvent (event.Halted host sender until call byte) = IsName host × IsKeyId sender × IsNumber until × IsNumber call × IsNumber byte
+IsEvent (event.Kept host sender until) = IsName host × IsKeyId sender × IsNumber until
+IsEvent (event.PublishedPeer ad other number until) = IsId ad × IsId other × IsLongNumber number × IsLongNumber until
+IsEvent (event.PublishedBind ad other number until) = IsId ad × IsId other × IsLongNumber number × IsLongNumber until
+IsEvent (event.Unpublished number) = IsNumber number

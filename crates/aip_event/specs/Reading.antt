@@ -1,11 +1,11 @@
 -- The input and the event that a line spells.
-use Rattle.std.specs.Prelude.{ℕ, List, codes, Option, Some, None, if◌then◌else◌}
+use Rattle.std.specs.Prelude.{ℕ, List, [], ◌∷◌, codes, Option, Some, None, if◌then◌else◌}
 use Rattle.std.specs.Str.{bytes_eq}
-use Rattle.aip_addr.specs.Naming.{is_name}
-use Rattle.aip_addr.specs.declared.ids.Id.{Id}
 use Rattle.aip_addr.specs.declared.ids.KeyId.{KeyId}
 use Rattle.aip_addr.specs.declared.ids.Address.{Address}
-use Rattle.aip_text.specs.Words.{bytes_of, cut, cut_at, hex_sized, number_of}
+use Rattle.aip_text.specs.Fields.{five_fields, four_fields, id_of, name_of, named, one_field, three_fields, two_fields, ◌>>=◌}
+use Rattle.aip_text.specs.Words.{bytes_of, cut, cut_at, hex_sized, number_of, u64_of}
+use Rattle.aip_event.specs.Lines.{cause_word, reason_word}
 use Rattle.aip_event.specs.declared.input.Target.{Target}
 use Rattle.aip_event.specs.declared.input.Target.TheVariants as target
 use Rattle.aip_event.specs.declared.input.Input.{Input}
@@ -17,17 +17,7 @@ use Rattle.aip_event.specs.declared.event.Reason.TheVariants as reason
 use Rattle.aip_event.specs.declared.event.Event.{Event}
 use Rattle.aip_event.specs.declared.event.Event.TheVariants as event
 
--- the second step, where the first gave a value
-infixl 10 ◌>>=◌
-abbrev pub ◌>>=◌ : {A B : Type 0} → Option A → (A → Option B) → Option B
-Some x >>= f = f x
-None >>= f = None
-
 -- ## Fields
-
--- the name that a word is
-abbrev pub name_of : List ℕ → Option (List ℕ)
-name_of word = if is_name word then Some word else None
 
 -- a target, of the parts of its word at the first slash
 abbrev pub target_from : List ℕ → Option (List ℕ × List ℕ) → Option Target
@@ -43,125 +33,37 @@ target_from word (Some parts) = do
 abbrev pub target_of : List ℕ → Option Target
 target_of word = target_from word (cut_at 47 word)
 
--- the id that 40 digits of hex spell
-abbrev pub id_of_word : List ℕ → Option Id
-id_of_word word = do
-  bytes ← hex_sized 20 word
-  Some (record { bytes = bytes })
-
 -- the key identifier that 38 digits of hex spell
-abbrev pub key_id_of_word : List ℕ → Option KeyId
-key_id_of_word word = do
+abbrev pub key_id_of : List ℕ → Option KeyId
+key_id_of word = do
   bytes ← hex_sized 19 word
   Some (record { bytes = bytes })
 
 -- the address that two ids with a colon between them spell
-abbrev pub address_of_word : List ℕ → Option Address
-address_of_word word = do
+abbrev pub address_of : List ℕ → Option Address
+address_of word = do
   parts ← cut_at 58 word
-  ad ← id_of_word parts.0
-  eid ← id_of_word parts.1
+  ad ← id_of parts.0
+  eid ← id_of parts.1
   Some (record { ad = ad; eid = eid })
+
+-- all causes
+abbrev pub causes : List Cause
+causes = cause.Open ∷ cause.Exempt ∷ cause.Trusted ∷ cause.Reverse ∷ cause.Proved ∷ cause.Wild ∷ []
 
 -- the cause that a word names
 abbrev pub cause_of : List ℕ → Option Cause
-cause_of word =
-    if bytes_eq word (codes "open") then Some cause.Open
-    else if bytes_eq word (codes "exempt") then Some cause.Exempt
-    else if bytes_eq word (codes "trusted") then Some cause.Trusted
-    else if bytes_eq word (codes "reverse") then Some cause.Reverse
-    else if bytes_eq word (codes "proved") then Some cause.Proved
-    else if bytes_eq word (codes "wild") then Some cause.Wild
-    else None
+cause_of word = named cause_word causes word
 
--- the reason of a host that a word names
-abbrev pub host_reason_of : List ℕ → Option Reason
-host_reason_of word =
-    if bytes_eq word (codes "stray") then Some reason.Stray
-    else if bytes_eq word (codes "notmine") then Some reason.NotMine
-    else if bytes_eq word (codes "unlogged") then Some reason.Unlogged
-    else if bytes_eq word (codes "mute") then Some reason.Mute
-    else if bytes_eq word (codes "dry") then Some reason.Dry
-    else if bytes_eq word (codes "kind") then Some reason.Kind
-    else if bytes_eq word (codes "unguarded") then Some reason.Unguarded
-    else None
+-- all reasons
+abbrev pub reasons : List Reason
+reasons =
+    reason.Bad ∷ reason.Mine ∷ reason.Hops ∷ reason.NoRoute ∷ reason.Foreign ∷ reason.NoBack ∷ reason.Down ∷ reason.Stray ∷ reason.NotMine
+    ∷ reason.Unlogged ∷ reason.Mute ∷ reason.Dry ∷ reason.Kind ∷ reason.Unguarded ∷ []
 
 -- the reason that a word names
 abbrev pub reason_of : List ℕ → Option Reason
-reason_of word =
-    if bytes_eq word (codes "bad") then Some reason.Bad
-    else if bytes_eq word (codes "mine") then Some reason.Mine
-    else if bytes_eq word (codes "hops") then Some reason.Hops
-    else if bytes_eq word (codes "noroute") then Some reason.NoRoute
-    else if bytes_eq word (codes "foreign") then Some reason.Foreign
-    else if bytes_eq word (codes "noback") then Some reason.NoBack
-    else if bytes_eq word (codes "down") then Some reason.Down
-    else host_reason_of word
-
--- ## Fields with one space between them
-
--- three words
-abbrev pub three_words : List ℕ → Option (List ℕ × List ℕ × List ℕ)
-three_words rest = do
-  first ← cut rest
-  second ← cut first.1
-  Some (first.0, second.0, second.1)
-
--- four words
-abbrev pub four_words : List ℕ → Option (List ℕ × List ℕ × List ℕ × List ℕ)
-four_words rest = do
-  first ← cut rest
-  second ← cut first.1
-  third ← cut second.1
-  Some (first.0, second.0, third.0, third.1)
-
--- what is made of two values, where both are there
-abbrev pub of_two : {A B X : Type 0} → (A → B → X) → Option A → Option B → Option X
-of_two make first second = do
-  x ← first
-  y ← second
-  Some (make x y)
-
--- what is made of three values
-abbrev pub of_three : {A B C X : Type 0} → (A → B → C → X) → Option A → Option B → Option C → Option X
-of_three make first second third = do
-  x ← first
-  y ← second
-  z ← third
-  Some (make x y z)
-
--- what is made of four values
-abbrev pub of_four : {A B C D X : Type 0} → (A → B → C → D → X) → Option A → Option B → Option C → Option D → Option X
-of_four make first second third fourth = do
-  x ← first
-  y ← second
-  z ← third
-  w ← fourth
-  Some (make x y z w)
-
--- one field
-abbrev pub one_field : {A X : Type 0} → (List ℕ → Option A) → (A → X) → List ℕ → Option X
-one_field read make rest = do
-  x ← read rest
-  Some (make x)
-
--- two fields
-abbrev pub two_fields : {A B X : Type 0} → (List ℕ → Option A) → (List ℕ → Option B) → (A → B → X) → List ℕ → Option X
-two_fields first second make rest = do
-  words ← cut rest
-  of_two make (first words.0) (second words.1)
-
--- three fields
-abbrev pub three_fields : {A B C X : Type 0} → (List ℕ → Option A) → (List ℕ → Option B) → (List ℕ → Option C) → (A → B → C → X) → List ℕ → Option X
-three_fields first second third make rest = do
-  words ← three_words rest
-  of_three make (first words.0) (second words.1) (third words.2)
-
--- four fields
-abbrev pub four_fields : {A B C D X : Type 0} → (List ℕ → Option A) → (List ℕ → Option B) → (List ℕ → Option C) → (List ℕ → Option D) → (A → B → C → D → X) → List ℕ → Option X
-four_fields first second third fourth make rest = do
-  words ← four_words rest
-  of_four make (first words.0) (second words.1) (third words.2) (fourth words.3)
+reason_of word = named reason_word reasons word
 
 -- ## Inputs
 
@@ -205,6 +107,14 @@ restart_of rest = one_field name_of (λ node. input.Restart node) rest
 unfoldable pub stop_of : List ℕ → Option Input
 stop_of rest = three_fields name_of number_of number_of (λ host call byte. input.Stop host call byte) rest
 
+-- the input whose words behind `halt` these are
+unfoldable pub halt_of : List ℕ → Option Input
+halt_of rest = three_fields name_of number_of number_of (λ host call byte. input.Halt host call byte) rest
+
+-- the input whose words behind `publish` these are
+unfoldable pub publish_of : List ℕ → Option Input
+publish_of rest = one_field bytes_of (λ bytes. input.Publish bytes) rest
+
 -- the input that the first word and the others spell
 unfoldable pub input_from : List ℕ → List ℕ → Option Input
 input_from key rest =
@@ -218,6 +128,8 @@ input_from key rest =
     else if bytes_eq key (codes "shutoff") then shutoff_of rest
     else if bytes_eq key (codes "restart") then restart_of rest
     else if bytes_eq key (codes "stop") then stop_of rest
+    else if bytes_eq key (codes "halt") then halt_of rest
+    else if bytes_eq key (codes "publish") then publish_of rest
     else None
 
 -- the input that a line spells
@@ -242,11 +154,11 @@ ask_of rest = three_fields name_of number_of number_of (λ router in_port out_po
 
 -- the event whose words behind `proved` these are
 unfoldable pub proved_of : List ℕ → Option Event
-proved_of rest = three_fields name_of address_of_word number_of (λ router source port. event.Proved router source port) rest
+proved_of rest = three_fields name_of address_of number_of (λ router source port. event.Proved router source port) rest
 
 -- the event whose words behind `wild` these are
 unfoldable pub wild_of : List ℕ → Option Event
-wild_of rest = three_fields name_of id_of_word number_of (λ router ad port. event.Wild router ad port) rest
+wild_of rest = three_fields name_of id_of number_of (λ router ad port. event.Wild router ad port) rest
 
 -- the event whose words behind `refuse` these are
 unfoldable pub refuse_of : List ℕ → Option Event
@@ -270,15 +182,55 @@ stopped_of rest = four_fields name_of number_of number_of number_of (λ host lea
 
 -- the event whose words behind `withheld` these are
 unfoldable pub withheld_of : List ℕ → Option Event
-withheld_of rest = two_fields name_of key_id_of_word (λ host to. event.Withheld host to) rest
+withheld_of rest = two_fields name_of key_id_of (λ host to. event.Withheld host to) rest
 
 -- the event whose words behind `obeyed` these are
 unfoldable pub obeyed_of : List ℕ → Option Event
-obeyed_of rest = three_fields name_of key_id_of_word number_of (λ host sender until. event.Obeyed host sender until) rest
+obeyed_of rest = three_fields name_of key_id_of number_of (λ host sender until. event.Obeyed host sender until) rest
 
 -- the event whose words behind `heard` these are
 unfoldable pub heard_of : List ℕ → Option Event
 heard_of rest = two_fields name_of number_of (λ host number. event.Heard host number) rest
+
+-- the event whose words behind `halted` these are
+unfoldable pub halted_of : List ℕ → Option Event
+halted_of rest = five_fields name_of key_id_of number_of number_of number_of (λ host sender until call byte. event.Halted host sender until call byte) rest
+
+-- the event whose words behind `kept` these are
+unfoldable pub kept_of : List ℕ → Option Event
+kept_of rest = three_fields name_of key_id_of number_of (λ host sender until. event.Kept host sender until) rest
+
+-- the event whose words behind `published peer` these are
+unfoldable pub peer_of : List ℕ → Option Event
+peer_of rest = four_fields id_of id_of u64_of u64_of (λ ad other number until. event.PublishedPeer ad other number until) rest
+
+-- the event whose words behind `published bind` these are
+unfoldable pub bind_of : List ℕ → Option Event
+bind_of rest = four_fields id_of id_of u64_of u64_of (λ ad other number until. event.PublishedBind ad other number until) rest
+
+-- the event that a record's kind and the words behind it spell
+unfoldable pub published_from : List ℕ → List ℕ → Option Event
+published_from kind rest =
+    if bytes_eq kind (codes "peer") then peer_of rest
+    else if bytes_eq kind (codes "bind") then bind_of rest
+    else None
+
+-- the event whose words behind `published` these are
+unfoldable pub published_of : List ℕ → Option Event
+published_of rest = do
+  parts ← cut rest
+  published_from parts.0 parts.1
+
+-- the event whose words behind `unpublished` these are
+unfoldable pub unpublished_of : List ℕ → Option Event
+unpublished_of rest = one_field number_of (λ number. event.Unpublished number) rest
+
+-- the event of the records that the first word and the others spell
+unfoldable pub record_event_from : List ℕ → List ℕ → Option Event
+record_event_from key rest =
+    if bytes_eq key (codes "published") then published_of rest
+    else if bytes_eq key (codes "unpublished") then unpublished_of rest
+    else None
 
 -- the event of a host that the first word and the others spell
 unfoldable pub host_event_from : List ℕ → List ℕ → Option Event
@@ -289,7 +241,9 @@ host_event_from key rest =
     else if bytes_eq key (codes "withheld") then withheld_of rest
     else if bytes_eq key (codes "obeyed") then obeyed_of rest
     else if bytes_eq key (codes "heard") then heard_of rest
-    else None
+    else if bytes_eq key (codes "halted") then halted_of rest
+    else if bytes_eq key (codes "kept") then kept_of rest
+    else record_event_from key rest
 
 -- the event that the first word and the others spell
 unfoldable pub event_from : List ℕ → List ℕ → Option Event

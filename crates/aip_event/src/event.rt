@@ -20,6 +20,35 @@ pub enum Cause {
     Wild,
 }
 
+impl Cause {
+    ghost use Rattle.std.specs.Prelude.{◌≡◌};
+    ghost use Rattle.aip_event.specs.Lines.{cause_word};
+
+    /// All causes.
+    pub const ALL: [Cause; 6] = [
+        Cause::Open,
+        Cause::Exempt,
+        Cause::Trusted,
+        Cause::Reverse,
+        Cause::Proved,
+        Cause::Wild,
+    ];
+
+    /// The cause's word in a line.
+    pub fn word(self) -> &'static [u8]
+        ensures { result.now ≡ cause_word self }
+    {
+        match self {
+            Cause::Open => b"open",
+            Cause::Exempt => b"exempt",
+            Cause::Trusted => b"trusted",
+            Cause::Reverse => b"reverse",
+            Cause::Proved => b"proved",
+            Cause::Wild => b"wild",
+        }
+    }
+}
+
 /// Why a router or a host drops a frame.
 #[derive(Clone, Copy, Debug, PartialEq, Eq)]
 pub enum Reason {
@@ -51,6 +80,51 @@ pub enum Reason {
     Kind,
     /// The host has no guard.
     Unguarded,
+}
+
+impl Reason {
+    ghost use Rattle.std.specs.Prelude.{◌≡◌};
+    ghost use Rattle.aip_event.specs.Lines.{reason_word};
+
+    /// All reasons.
+    pub const ALL: [Reason; 14] = [
+        Reason::Bad,
+        Reason::Mine,
+        Reason::Hops,
+        Reason::NoRoute,
+        Reason::Foreign,
+        Reason::NoBack,
+        Reason::Down,
+        Reason::Stray,
+        Reason::NotMine,
+        Reason::Unlogged,
+        Reason::Mute,
+        Reason::Dry,
+        Reason::Kind,
+        Reason::Unguarded,
+    ];
+
+    /// The reason's word in a line.
+    pub fn word(self) -> &'static [u8]
+        ensures { result.now ≡ reason_word self }
+    {
+        match self {
+            Reason::Bad => b"bad",
+            Reason::Mine => b"mine",
+            Reason::Hops => b"hops",
+            Reason::NoRoute => b"noroute",
+            Reason::Foreign => b"foreign",
+            Reason::NoBack => b"noback",
+            Reason::Down => b"down",
+            Reason::Stray => b"stray",
+            Reason::NotMine => b"notmine",
+            Reason::Unlogged => b"unlogged",
+            Reason::Mute => b"mute",
+            Reason::Dry => b"dry",
+            Reason::Kind => b"kind",
+            Reason::Unguarded => b"unguarded",
+        }
+    }
 }
 
 /// What happens in the network.
@@ -162,6 +236,55 @@ pub enum Event {
     Heard {
         /// The host.
         host: Name,
+        /// The number of the reason.
+        number: u64,
+    },
+    /// A host's filter disk fails while the host obeys a shut-off.
+    Halted {
+        /// The host.
+        host: Name,
+        /// The key identifier of the shut-off's sender.
+        sender: KeyId,
+        /// The time until which the shut-off asks.
+        until: u64,
+        /// At which call of the disk.
+        call: u64,
+        /// The byte that the call left.
+        byte: u64,
+    },
+    /// A shut-off is in force at a host that starts anew.
+    Kept {
+        /// The host.
+        host: Name,
+        /// The key identifier of the shut-off's sender.
+        sender: KeyId,
+        /// The time until which it is in force.
+        until: u64,
+    },
+    /// The record of a peering is kept.
+    PublishedPeer {
+        /// The domain that signed it.
+        ad: Id,
+        /// The domain that it trusts.
+        other: Id,
+        /// The record's number, any number below 2^64.
+        number: u64,
+        /// The time until which it is in force, any number below 2^64.
+        until: u64,
+    },
+    /// The record that binds a host to a domain is kept.
+    PublishedBind {
+        /// The domain that signed it.
+        ad: Id,
+        /// The host's id.
+        other: Id,
+        /// The record's number, any number below 2^64.
+        number: u64,
+        /// The time until which it is in force, any number below 2^64.
+        until: u64,
+    },
+    /// A record is refused.
+    Unpublished {
         /// The number of the reason.
         number: u64,
     },

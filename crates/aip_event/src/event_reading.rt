@@ -1,17 +1,17 @@
-ghost use Rattle.std.specs.Prelude.{◌≡◌, IfNone, IfOk, IfSome};
+ghost use Rattle.std.specs.Prelude.{◌≡◌, IfOk, IfSome, Some};
+ghost use Rattle.aip_text.specs.Fields.{of_three};
 ghost use Rattle.aip_text.specs.Words.{number_of};
 ghost use Rattle.aip_event.specs.declared.event.Event.{Event};
 ghost use Rattle.aip_event.specs.declared.event.Event.TheVariants as event;
 ghost use Rattle.aip_event.specs.Lines.{IsEvent, event_line};
-ghost use Rattle.aip_event.specs.Reading.{ask_of, drop_of, event_from, event_of, forward_of, got_of, heard_of, host_event_from, obeyed_of, of_three, proved_of, put_of, refuse_of, signed_of, stopped_of, target_of, wild_of, withheld_of};
+ghost use Rattle.aip_event.specs.Reading.{ask_of, bind_of, drop_of, event_from, event_of, forward_of, got_of, halted_of, heard_of, host_event_from, kept_of, obeyed_of, peer_of, proved_of, published_of, put_of, record_event_from, refuse_of, signed_of, stopped_of, target_of, unpublished_of, wild_of, withheld_of};
 
 use crate::event::Event;
-use crate::fields::{
-    four_words, read_address, read_cause, read_id, read_key_id, read_name, read_reason,
-    read_target, three_words,
-};
+use crate::fields::{read_address, read_cause, read_key_id, read_reason, read_target};
 use aip_addr::Bytes;
-use aip_text::{cut, read_bytes, read_number};
+use aip_text::{
+    cut, five_words, four_words, read_bytes, read_id, read_name, read_number, read_u64, three_words,
+};
 use std::alloc::{AllocError, Global};
 
 /// The event that the line spells, without its line feed, and None where it is no line of an event.
@@ -19,7 +19,7 @@ use std::alloc::{AllocError, Global};
 pub fn read_event(alloc: Global, line: &[u8]) -> Result<Option<Event>, AllocError>
     ensures exact { IfOk result (λ found. found ≡ event_of line.now) }
     ensures found { IfOk result (λ found. IfSome found (λ e. IsEvent e × (line.now ≡ event_line e))) }
-    ensures none { IfOk result (λ found. IfNone found ((e : Event) → IsEvent e → line.now ≡ event_line e → ⊥)) }
+    ensures again { IfOk result (λ found. (e : Event) → IsEvent e → line.now ≡ event_line e → found ≡ Some e) }
 {
     event_in(alloc, line)
 }
@@ -73,6 +73,23 @@ fn read_host_event(key: &[u8], rest: &[u8]) -> Option<Event>
         read_obeyed(rest)
     } else if key == b"heard".as_slice() {
         read_heard(rest)
+    } else if key == b"halted".as_slice() {
+        read_halted(rest)
+    } else if key == b"kept".as_slice() {
+        read_kept(rest)
+    } else {
+        read_record_event(key, rest)
+    }
+}
+
+#[tactic(auto, unfolding(crate::specs::Reading::record_event_from))]
+fn read_record_event(key: &[u8], rest: &[u8]) -> Option<Event>
+    ensures { result ≡ record_event_from key.now rest.now }
+{
+    if key == b"published".as_slice() {
+        read_published(rest)
+    } else if key == b"unpublished".as_slice() {
+        read_unpublished(rest)
     } else {
         None
     }
@@ -252,4 +269,94 @@ fn read_heard(rest: &[u8]) -> Option<Event>
     let host = read_name(host)?;
     let number = read_number(number)?;
     Some(Event::Heard { host, number })
+}
+
+#[tactic(auto, unfolding(crate::specs::Reading::halted_of))]
+fn read_halted(rest: &[u8]) -> Option<Event>
+    ensures { result ≡ halted_of rest.now }
+{
+    let (host, sender, until, call, byte) = five_words(rest)?;
+    let host = read_name(host)?;
+    let sender = read_key_id(sender)?;
+    let until = read_number(until)?;
+    let call = read_number(call)?;
+    let byte = read_number(byte)?;
+    Some(Event::Halted {
+        host,
+        sender,
+        until,
+        call,
+        byte,
+    })
+}
+
+#[tactic(auto, unfolding(crate::specs::Reading::kept_of))]
+fn read_kept(rest: &[u8]) -> Option<Event>
+    ensures { result ≡ kept_of rest.now }
+{
+    let (host, sender, until) = three_words(rest)?;
+    let host = read_name(host)?;
+    let sender = read_key_id(sender)?;
+    let until = read_number(until)?;
+    Some(Event::Kept {
+        host,
+        sender,
+        until,
+    })
+}
+
+#[tactic(auto, unfolding(crate::specs::Reading::published_of, crate::specs::Reading::published_from))]
+fn read_published(rest: &[u8]) -> Option<Event>
+    ensures { result ≡ published_of rest.now }
+{
+    let (kind, rest) = cut(rest)?;
+    if kind == b"peer".as_slice() {
+        read_peer(rest)
+    } else if kind == b"bind".as_slice() {
+        read_bind(rest)
+    } else {
+        None
+    }
+}
+
+#[tactic(auto, unfolding(crate::specs::Reading::peer_of))]
+fn read_peer(rest: &[u8]) -> Option<Event>
+    ensures { result ≡ peer_of rest.now }
+{
+    let (ad, other, number, until) = four_words(rest)?;
+    let ad = read_id(ad)?;
+    let other = read_id(other)?;
+    let number = read_u64(number)?;
+    let until = read_u64(until)?;
+    Some(Event::PublishedPeer {
+        ad,
+        other,
+        number,
+        until,
+    })
+}
+
+#[tactic(auto, unfolding(crate::specs::Reading::bind_of))]
+fn read_bind(rest: &[u8]) -> Option<Event>
+    ensures { result ≡ bind_of rest.now }
+{
+    let (ad, other, number, until) = four_words(rest)?;
+    let ad = read_id(ad)?;
+    let other = read_id(other)?;
+    let number = read_u64(number)?;
+    let until = read_u64(until)?;
+    Some(Event::PublishedBind {
+        ad,
+        other,
+        number,
+        until,
+    })
+}
+
+#[tactic(auto, unfolding(crate::specs::Reading::unpublished_of))]
+fn read_unpublished(rest: &[u8]) -> Option<Event>
+    ensures { result ≡ unpublished_of rest.now }
+{
+    let number = read_number(rest)?;
+    Some(Event::Unpublished { number })
 }

@@ -1,12 +1,10 @@
-ghost use Rattle.std.specs.Prelude.{◌≡◌, ◌++◌, IfOk, OnErr, OnOk};
+ghost use Rattle.std.specs.Prelude.{◌≡◌, ◌++◌, ◌∷◌, IfOk, OnErr, OnOk, decimal};
+ghost use Rattle.aip_text.specs.Fields.{id_word};
 ghost use Rattle.aip_event.specs.declared.event.Event.TheVariants as event;
-ghost use Rattle.aip_event.specs.Lines.{event_line};
+ghost use Rattle.aip_event.specs.Lines.{event_line, key_id_word};
 
 use crate::event::{Cause, Event, Reason};
-use crate::fields::{
-    push_address, push_content, push_count, push_id, push_key_id, push_target, word_of_cause,
-    word_of_reason,
-};
+use crate::fields::{push_address, push_content, push_count, push_id, push_key_id, push_target};
 use crate::input::Target;
 use crate::shapes::{name_line, name_number_line, name_numbers_line, number_line};
 use aip_addr::{Address, Bytes, Id, KeyId, Name};
@@ -63,8 +61,33 @@ fn line_of(alloc: Global, event: &Event) -> Result<Vec<u8>, AllocError>
             host,
             sender,
             until,
-        } => obeyed_line(alloc, host, sender, *until),
+        } => name_key_id_line(alloc, b"obeyed", host, sender, *until),
         Event::Heard { host, number } => name_number_line(alloc, b"heard", host, *number),
+        Event::Halted {
+            host,
+            sender,
+            until,
+            call,
+            byte,
+        } => halted_line(alloc, host, sender, *until, *call, *byte),
+        Event::Kept {
+            host,
+            sender,
+            until,
+        } => name_key_id_line(alloc, b"kept", host, sender, *until),
+        Event::PublishedPeer {
+            ad,
+            other,
+            number,
+            until,
+        } => published_line(alloc, b"published peer", ad, other, *number, *until),
+        Event::PublishedBind {
+            ad,
+            other,
+            number,
+            until,
+        } => published_line(alloc, b"published bind", ad, other, *number, *until),
+        Event::Unpublished { number } => number_line(alloc, b"unpublished", *number),
     }
 }
 
@@ -92,7 +115,7 @@ fn forward_line(
     ensures { IfOk result (λ line. line.items ≡ event_line (event.Forward router.now in_port out_port cause)) }
 {
     let mut line = name_numbers_line(alloc, b"forward", router, in_port, out_port)?;
-    push_word(&mut line, word_of_cause(cause))?;
+    push_word(&mut line, cause.word())?;
     Ok(line)
 }
 
@@ -123,7 +146,7 @@ fn drop_line(alloc: Global, node: &Name, reason: Reason) -> Result<Vec<u8>, Allo
     ensures { IfOk result (λ line. line.items ≡ event_line (event.Drop node.now reason)) }
 {
     let mut line = name_line(alloc, b"drop", node)?;
-    push_word(&mut line, word_of_reason(reason))?;
+    push_word(&mut line, reason.word())?;
     Ok(line)
 }
 
@@ -149,16 +172,51 @@ fn withheld_line(alloc: Global, host: &Name, to: &KeyId) -> Result<Vec<u8>, Allo
     Ok(line)
 }
 
-fn obeyed_line(
+fn name_key_id_line(
     alloc: Global,
+    key: &[u8],
     host: &Name,
     sender: &KeyId,
     until: u64,
 ) -> Result<Vec<u8>, AllocError>
-    ensures { IfOk result (λ line. line.items ≡ event_line (event.Obeyed host.now sender.now until)) }
+    ensures { IfOk result (λ line. line.items ≡ key.now ++ 32 ∷ host.now ++ 32 ∷ key_id_word sender.now ++ 32 ∷ decimal until) }
 {
-    let mut line = name_line(alloc, b"obeyed", host)?;
+    let mut line = name_line(alloc, key, host)?;
     push_key_id(&mut line, sender)?;
+    push_count(&mut line, until)?;
+    Ok(line)
+}
+
+fn halted_line(
+    alloc: Global,
+    host: &Name,
+    sender: &KeyId,
+    until: u64,
+    call: u64,
+    byte: u64,
+) -> Result<Vec<u8>, AllocError>
+    ensures { IfOk result (λ line. line.items ≡ event_line (event.Halted host.now sender.now until call byte)) }
+{
+    let mut line = name_key_id_line(alloc, b"halted", host, sender, until)?;
+    push_count(&mut line, call)?;
+    push_count(&mut line, byte)?;
+    Ok(line)
+}
+
+fn published_line(
+    alloc: Global,
+    key: &[u8],
+    ad: &Id,
+    other: &Id,
+    number: u64,
+    until: u64,
+) -> Result<Vec<u8>, AllocError>
+    ensures { IfOk result (λ line. line.items ≡ key.now ++ 32 ∷ id_word ad.now ++ 32 ∷ id_word other.now ++ 32 ∷ decimal number ++ 32 ∷ decimal until) }
+{
+    let mut line = Vec::from_slice(alloc, key)?;
+    push_id(&mut line, ad)?;
+    push_id(&mut line, other)?;
+    push_count(&mut line, number)?;
     push_count(&mut line, until)?;
     Ok(line)
 }

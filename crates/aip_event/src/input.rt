@@ -88,4 +88,18 @@ pub enum Input {
         /// The byte that the call leaves.
         byte: u64,
     },
+    /// A host's filter disk will fail while the host obeys a shut-off next.
+    Halt {
+        /// The host.
+        host: Name,
+        /// At which call of the disk.
+        call: u64,
+        /// The byte that the call leaves.
+        byte: u64,
+    },
+    /// A record is published.
+    Publish {
+        /// The record's bytes.
+        bytes: Bytes,
+    },
 }

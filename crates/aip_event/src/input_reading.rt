@@ -1,14 +1,15 @@
-ghost use Rattle.std.specs.Prelude.{◌≡◌, IfNone, IfOk, IfSome};
+ghost use Rattle.std.specs.Prelude.{◌≡◌, IfOk, IfSome, Some};
+ghost use Rattle.aip_text.specs.Fields.{name_of, of_four, of_two};
 ghost use Rattle.aip_text.specs.Words.{bytes_of, number_of};
 ghost use Rattle.aip_event.specs.declared.input.Input.{Input};
 ghost use Rattle.aip_event.specs.declared.input.Input.TheVariants as input;
 ghost use Rattle.aip_event.specs.Lines.{IsInput, input_line};
-ghost use Rattle.aip_event.specs.Reading.{cut_of, deliver_of, inject_of, input_from, input_of, mend_of, name_of, of_four, of_two, raw_of, restart_of, send_of, shutoff_of, stop_of, target_of, tick_of};
+ghost use Rattle.aip_event.specs.Reading.{cut_of, deliver_of, halt_of, inject_of, input_from, input_of, mend_of, publish_of, raw_of, restart_of, send_of, shutoff_of, stop_of, target_of, tick_of};
 
-use crate::fields::{four_words, read_name, read_target, three_words};
+use crate::fields::read_target;
 use crate::input::Input;
 use aip_addr::Bytes;
-use aip_text::{cut, read_bytes, read_number};
+use aip_text::{cut, four_words, read_bytes, read_name, read_number, three_words};
 use std::alloc::{AllocError, Global};
 
 /// The input that the line spells, without its line feed, and None where it is no line of an input.
@@ -16,7 +17,7 @@ use std::alloc::{AllocError, Global};
 pub fn read_input(alloc: Global, line: &[u8]) -> Result<Option<Input>, AllocError>
     ensures exact { IfOk result (λ found. found ≡ input_of line.now) }
     ensures found { IfOk result (λ found. IfSome found (λ i. IsInput i × (line.now ≡ input_line i))) }
-    ensures none { IfOk result (λ found. IfNone found ((i : Input) → IsInput i → line.now ≡ input_line i → ⊥)) }
+    ensures again { IfOk result (λ found. (i : Input) → IsInput i → line.now ≡ input_line i → found ≡ Some i) }
 {
     input_in(alloc, line)
 }
@@ -55,6 +56,10 @@ fn read_fields(alloc: Global, key: &[u8], rest: &[u8]) -> Result<Option<Input>, 
         Ok(read_restart(rest))
     } else if key == b"stop".as_slice() {
         Ok(read_stop(rest))
+    } else if key == b"halt".as_slice() {
+        Ok(read_halt(rest))
+    } else if key == b"publish".as_slice() {
+        read_publish(alloc, rest)
     } else {
         Ok(None)
     }
@@ -190,4 +195,25 @@ fn read_stop(rest: &[u8]) -> Option<Input>
     let call = read_number(call)?;
     let byte = read_number(byte)?;
     Some(Input::Stop { host, call, byte })
+}
+
+#[tactic(auto, unfolding(crate::specs::Reading::halt_of))]
+fn read_halt(rest: &[u8]) -> Option<Input>
+    ensures { result ≡ halt_of rest.now }
+{
+    let (host, call, byte) = three_words(rest)?;
+    let host = read_name(host)?;
+    let call = read_number(call)?;
+    let byte = read_number(byte)?;
+    Some(Input::Halt { host, call, byte })
+}
+
+#[tactic(auto, unfolding(crate::specs::Reading::publish_of))]
+fn read_publish(alloc: Global, rest: &[u8]) -> Result<Option<Input>, AllocError>
+    ensures { IfOk result (λ found. found ≡ publish_of rest.now) }
+{
+    match read_bytes(alloc, rest)? {
+        Some(bytes) => Ok(Some(Input::Publish { bytes })),
+        None => Ok(None),
+    }
 }

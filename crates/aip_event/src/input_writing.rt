@@ -38,6 +38,8 @@ fn line_of(alloc: Global, input: &Input) -> Result<Vec<u8>, AllocError>
         }
         Input::Restart { node } => name_line(alloc, b"restart", node),
         Input::Stop { host, call, byte } => name_numbers_line(alloc, b"stop", host, *call, *byte),
+        Input::Halt { host, call, byte } => name_numbers_line(alloc, b"halt", host, *call, *byte),
+        Input::Publish { bytes } => publish_line(alloc, bytes),
     }
 }
 
@@ -62,6 +64,14 @@ fn inject_line(alloc: Global, target: &Target, bytes: &Bytes) -> Result<Vec<u8>,
 {
     let mut line = Vec::from_slice(alloc, b"inject")?;
     push_target(&mut line, target)?;
+    push_content(&mut line, bytes)?;
+    Ok(line)
+}
+
+fn publish_line(alloc: Global, bytes: &Bytes) -> Result<Vec<u8>, AllocError>
+    ensures { IfOk result (λ line. line.items ≡ input_line (input.Publish bytes.now)) }
+{
+    let mut line = Vec::from_slice(alloc, b"publish")?;
     push_content(&mut line, bytes)?;
     Ok(line)
 }

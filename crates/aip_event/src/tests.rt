@@ -31,6 +31,9 @@ fn lines_of_inputs_are_read_and_written(rt: HostRuntime) -> Result<(), Fail> {
         b"shutoff b 0 10",
         b"restart a",
         b"stop a 1 0",
+        b"halt a 4 165",
+        b"publish 0100010e85",
+        b"publish -",
     ];
     for line in lines {
         assert_eq!(rt; rewritten_input(rt.alloc(), line)?.as_slice(), line);
@@ -62,6 +65,35 @@ fn lines_of_events_are_read_and_written(rt: HostRuntime) -> Result<(), Fail> {
 }
 
 #[test]
+fn lines_of_filters_and_records_are_read_and_written(rt: HostRuntime) -> Result<(), Fail> {
+    let lines = [
+        b"halted a 0180326aee4627a680a82b2e03b54a1277d7ee 10 4 165".as_slice(),
+        b"kept a 0180326aee4627a680a82b2e03b54a1277d7ee 10",
+        b"published peer 010e850329dc2dc56dc60745b2b7145d4d46c500 01e06738406d0ab2d1554b79687e55ce7f050400 1 100",
+        b"published bind 010e850329dc2dc56dc60745b2b7145d4d46c500 01e06738406d0ab2d1554b79687e55ce7f050400 0 18446744073709551615",
+        b"unpublished 4",
+    ];
+    for line in lines {
+        assert_eq!(rt; rewritten_event(rt.alloc(), line)?.as_slice(), line);
+    }
+    Ok(())
+}
+
+#[test]
+fn other_lines_of_records_are_refused(rt: HostRuntime) -> Result<(), Fail> {
+    let lines = [
+        b"published peer 010e850329dc2dc56dc60745b2b7145d4d46c500 01e06738406d0ab2d1554b79687e55ce7f050400 1 18446744073709551616".as_slice(),
+        b"published peer 010e850329dc2dc56dc60745b2b7145d4d46c500 01e06738406d0ab2d1554b79687e55ce7f050400 01 100",
+        b"published none 010e850329dc2dc56dc60745b2b7145d4d46c500 01e06738406d0ab2d1554b79687e55ce7f050400 1 100",
+        b"unpublished 1000000000000000",
+    ];
+    for line in lines {
+        assert!(rt; read_event(rt.alloc(), line)?.is_none());
+    }
+    Ok(())
+}
+
+#[test]
 fn other_lines_are_refused(rt: HostRuntime) -> Result<(), Fail> {
     let lines = [
         b"".as_slice(),
@@ -78,7 +110,9 @@ fn other_lines_are_refused(rt: HostRuntime) -> Result<(), Fail> {
         b"raw A 00",
         b"inject r/01 00",
         b"inject r/ 00",
-        b"halt a 3 0",
+        b"halt a 3",
+        b"publish",
+        b"publish  00",
     ];
     for line in lines {
         assert!(rt; read_input(rt.alloc(), line)?.is_none());

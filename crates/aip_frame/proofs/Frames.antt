@@ -48,7 +48,7 @@ the_frame (Some f) P some p = (f, refl, p)
 the_frame None P some p = absurd cc
 
 -- the bytes of a frame have the form
-form_of_frame : (bytes : List ℕ) → IsSome (frame_of bytes) → Form bytes
+pub form_of_frame : (bytes : List ℕ) → IsSome (frame_of bytes) → Form bytes
 form_of_frame bytes some =
     let found = the_frame (frame_of bytes) (λ f. IsFrame bytes f) some (sound bytes) in
     rw found.2.spelled (form_again found.0 found.2.fits)
@@ -107,7 +107,8 @@ hop_fits : (f : Frame) (hop : ℕ) → hop < 256 → Fits f → Fits (with_hop f
 hop_fits f hop lt h =
     record { hop = lt; packet = h.packet; to_ad = h.to_ad; to_eid = h.to_eid; from_ad = h.from_ad; from_eid = h.from_eid; body = h.body; challenge = h.challenge }
 
-if_some : (o : Option Frame) (P Q : Frame → Type 0) → ((f : Frame) → P f → Q f) → IfSome o P → IfSome o Q
+-- what follows of a frame follows where there is one
+pub if_some : (o : Option Frame) (P Q : Frame → Type 0) → ((f : Frame) → P f → Q f) → IfSome o P → IfSome o Q
 if_some (Some f) P Q step p = step f p
 if_some None P Q step p = tt
 

@@ -2,3 +2,5 @@ pub mod Bytes
 pub mod Fitting
 pub mod Spelled
 pub mod Frames
+pub mod Ends
+pub mod Parsed

@@ -2,6 +2,7 @@
 use Rattle.std.specs.Prelude.{◌≡◌, ◌<◌, ◌≤◌, ◌^◌, ℕ, zero, suc, Bool, ◌==◌, ◌&&◌, nat_lt, nat_le, List, ◌∷◌, ◌++◌, length, take, drop, slice_index, Option, Some, None, if◌then◌else◌}
 use Rattle.std.specs.Str.{bytes_eq}
 use Rattle.byteorder.specs.Endian.{big_bytes, big_number}
+use Rattle.sha2.specs.Sha256.{sha256}
 use Rattle.aip_addr.specs.Ids.{address_bytes, address_of}
 use Rattle.aip_addr.specs.declared.ids.Address.{Address}
 use Rattle.aip_frame.specs.declared.frame.Frame.{Frame}
@@ -84,3 +85,7 @@ unfoldable pub frame_of : List ℕ → Option Frame
 frame_of bytes =
     let f = fields_at bytes in
     if bytes_eq bytes (frame_bytes f) && fits f then Some f else None
+
+-- the packet hash: SHA-256 (FIPS 180-4) of the frame's bytes with hop limit 0, so that it stays while routers forward it
+unfoldable pub packet_hash_of : Frame → List ℕ
+packet_hash_of f = sha256 (frame_bytes (record f { hop = 0 }))

@@ -13,15 +13,33 @@
 //! | 48..88 | source, likewise |
 //! | 88..90 | length of the body, at most 9126, and 154 in a challenge |
 //! | 90.. | body |
+//!
+//! ```rust
+//! use aip_frame::{Frame, Kind, encode, hop_of, is_frame};
+//!
+//! let frame = Frame {
+//!     kind: Kind::Data,
+//!     hop: 64,
+//!     packet: 7,
+//!     to,
+//!     from,
+//!     body: Bytes::from_slice(alloc, b"hi")?,
+//! };
+//! let bytes = encode(alloc, &frame)?;
+//! assert!(rt; is_frame(bytes.as_slice()));
+//! assert_eq!(rt; hop_of(bytes.as_slice()), 64);
+//! ```
 #![tactic(auto)]
 
 mod fields;
 mod frame;
 mod spelling;
+mod whole;
 
 pub use fields::{body_of, from_of, hop_of, is_frame, kind_of, packet_of, set_hop, to_of};
 pub use frame::{Frame, Kind};
 pub use spelling::encode;
+pub use whole::{no_longer_is_a_frame, no_prefix_is_a_frame, packet_hash, parse};
 
 #[cfg(test)]
 mod tests;

@@ -109,3 +109,28 @@ fn a_frame_has_at_most_9216_bytes(rt: HostRuntime) -> Result<(), Fail> {
     assert!(rt; is_frame(&bytes));
     Ok(())
 }
+
+#[test]
+fn a_packet_is_parsed_whole(rt: HostRuntime) -> Result<(), Fail> {
+    let frame = parse(rt.alloc(), &PACKET)?.ok_or("a frame")?;
+    assert_eq!(rt; frame.kind, Kind::Data);
+    assert_eq!(rt; frame.hop, 64);
+    assert_eq!(rt; frame.packet, 7);
+    assert_eq!(rt; frame.to, destination());
+    assert_eq!(rt; frame.from, source());
+    assert_eq!(rt; frame.body.as_slice(), b"hi".as_slice());
+    assert!(rt; parse(rt.alloc(), &PACKET[..91])?.is_none());
+    Ok(())
+}
+
+#[test]
+fn the_hash_of_a_packet_leaves_the_hop_limit_out(rt: HostRuntime) {
+    // SHA-256 of the packet's bytes with 0 as the third, by another implementation of the hash.
+    let hash =
+        b"\x83\xd8\x8c\x18\x09\xaf\x4f\x4f\xee\xc6\x32\x73\xa0\xe8\x00\x43\x59\x9b\x9c\xf2\x93\x60\x45\xc1\xcb\x6c\x3d\x9c\x2c\x07\x75\x3b";
+    let mut bytes = PACKET;
+    assert!(rt; is_frame(&bytes));
+    assert_eq!(rt; packet_hash(&bytes)[..], hash[..]);
+    set_hop(&mut bytes, 1);
+    assert_eq!(rt; packet_hash(&bytes)[..], hash[..]);
+}

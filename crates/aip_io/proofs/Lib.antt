@@ -1,2 +1,3 @@
+mod LineFeeds
 mod Pieces
 mod Places

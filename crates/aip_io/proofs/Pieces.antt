@@ -1,8 +1,8 @@
 -- Texts that are put or read in pieces.
-use Rattle.std.proofs.Common.{◌≡◌, ℕ, ◌+◌, ◌-◌, ◌≤◌, List, ◌++◌, length, take, drop, Option, ap, sym, ◌∙◌, subst, arith}
+use Rattle.std.proofs.Common.{◌≡◌, ℕ, ◌+◌, ◌-◌, ◌≤◌, List, ◌++◌, length, take, drop, Option, ap, sym, ◌∙◌, arith}
 use Rattle.std.proofs.lemmas.Grind.{common_steps}
 use Rattle.std.proofs.Math.Seq.{take-add}
-use Rattle.std.proofs.lemmas.List.{take-append-drop, take-take, length-take}
+use Rattle.std.proofs.lemmas.List.{take-append-drop, length-take}
 use Rattle.aip_io.specs.Shelf.{IsRead}
 use Rattle.aip_io.specs.Sink.{and_then, and_then-and_then, TookPart}
 
@@ -16,13 +16,12 @@ pub took_part : (before mid now : Option (List ℕ)) (at : ℕ) (bytes : List �
 took_part before mid now at bytes so_far nothing =
     record { part = take at bytes; rest = drop at bytes; whole = take-append-drop at bytes; took = nothing ∙ so_far }
 
--- the bytes that are kept of a read go on with the text
-pub read_more : (told piece old new : List ℕ) (len at came kept count : ℕ) → IsRead told at came piece → at ≡ len → came ≤ length piece → kept ≤ came → old ≡ take len told → new ≡ old ++ take kept piece → count ≡ len + length (take kept piece) → new ≡ take count told
-read_more told piece old new len at came kept count read at_end within some so_far more counted =
-    let kept_is : take kept piece ≡ take kept (drop at told) = sym (take-take kept came piece some) ∙ ap (take kept) read.bytes ∙ take-take kept came (drop at told) some in
-    let there : take kept piece ≡ take kept (drop len told) = subst (λ n. take kept piece ≡ take kept (drop n told)) at_end kept_is in
-    let count_is : count ≡ len + kept = omega (arith, length-take kept piece) in
-    more ∙ ap (λ p. old ++ p) there ∙ ap (λ o. o ++ take kept (drop len told)) so_far ∙ sym (take-add len kept told) ∙ ap (λ n. take n told) (sym count_is)
+-- the bytes that a read gave go on with the text
+pub read_more : (told piece old new : List ℕ) (len at came count : ℕ) → IsRead told at came piece → at ≡ len → came ≤ length piece → old ≡ take len told → new ≡ old ++ take came piece → count ≡ len + length (take came piece) → new ≡ take count told
+read_more told piece old new len at came count read at_end within so_far more counted =
+    let there : take came piece ≡ take came (drop len told) = read.bytes ∙ ap (λ n. take came (drop n told)) at_end in
+    let count_is : count ≡ len + came = omega (arith, length-take came piece) in
+    more ∙ ap (λ p. old ++ p) there ∙ ap (λ o. o ++ take came (drop len told)) so_far ∙ sym (take-add len came told) ∙ ap (λ n. take n told) (sym count_is)
 
 -- a slice from an offset on
 pub rest_of : (at : ℕ) (bytes : List ℕ) → take (length bytes - at) (drop at bytes) ≡ drop at bytes

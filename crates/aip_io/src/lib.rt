@@ -8,6 +8,8 @@
 
 mod dir_shelf;
 mod failed;
+mod got;
+mod lines;
 mod mem_shelf;
 mod mem_sink;
 mod shelf;
@@ -16,11 +18,15 @@ mod std_sink;
 
 pub use dir_shelf::DirShelf;
 pub use failed::Failed;
+pub use got::Got;
+pub use lines::Lines;
 pub use mem_shelf::{File, MemShelf};
 pub use mem_sink::MemSink;
 pub use shelf::{ReadEnd, Shelf, read_all};
 pub use sink::{Sink, put_all};
 pub use std_sink::StdSink;
 
+#[cfg(test)]
+mod lines_tests;
 #[cfg(test)]
 mod tests;

@@ -5,7 +5,8 @@ ghost use Rattle.aip_io.specs.Memory.{text_under, place_of, faults_under, new_sh
 ghost use Rattle.aip_io.specs.Shelf.{IsRead};
 
 use crate::{Failed, Shelf};
-use std::alloc::{AllocError, Global};
+use aip_addr::Memory;
+use std::alloc::Global;
 use std::marker::Model;
 
 /// A file in memory.
@@ -62,7 +63,7 @@ impl MemShelf {
         files: Vec<File>,
         failing: Vec<u64>,
         most: usize,
-    ) -> Result<MemShelf, AllocError>
+    ) -> Result<MemShelf, Memory>
         requires { 1 ≤ most }
         ensures new { IfOk result (λ shelf. shelf ≡ new_shelf files.items failing.items most) }
         ensures faults { IfOk result (λ shelf. (name : List ℕ) → faults_under shelf name ≡ 0) }

@@ -5,7 +5,8 @@ ghost use Rattle.aip_io.specs.Memory.{given};
 ghost use Rattle.aip_io.specs.Sink.{and_then};
 
 use crate::{Failed, Sink};
-use std::alloc::{AllocError, Global};
+use aip_addr::Memory;
+use std::alloc::Global;
 use std::marker::Model;
 
 /// A sink in memory. It tells what it has taken. It fails at the calls that it is told to, and where its
@@ -46,7 +47,7 @@ impl MemSink {
         room: usize,
         failing: Vec<u64>,
         most: usize,
-    ) -> Result<MemSink, AllocError>
+    ) -> Result<MemSink, Memory>
         requires { 1 ≤ most }
         ensures { IfOk result (λ sink. sink ≡ record {
           taken = [];

@@ -65,10 +65,10 @@ impl From<Failed> for ReadEnd {
     }
 }
 
-// How many bytes one read asks for.
+// How many bytes one read asks for at most.
 const PIECE: usize = 4096;
 
-// Reads on behind the bytes that are there, and keeps at most `most` of all. Says how many came.
+// Reads on behind the bytes that are there, and no further than `most` bytes. Says how many came.
 fn read_on<S: Shelf>(
     shelf: &mut S,
     name: &str,
@@ -90,14 +90,15 @@ fn read_on<S: Shelf>(
         → S.faults shelf.new other ≡ S.faults shelf.old other }
 {
     let mut piece = [0u8; PIECE];
+    let (room, _) = piece.split_at_mut(PIECE.min(most - bytes.len()));
     let at = bytes.len() as u64;
-    let came = shelf.read(name, at, &mut piece)?;
-    let kept = came.min(most - bytes.len());
-    bytes.extend_from_slice(&piece[..kept])?;
-    Ok(kept)
+    let came = shelf.read(name, at, room)?;
+    bytes.extend_from_slice(&room[..came])?;
+    Ok(came)
 }
 
-/// Reads the text under a name, its first `most` bytes where it has more.
+/// Reads the text under a name, its first `most` bytes where it has more. It asks for none behind them,
+/// so a text without an end takes no more memory than the limit does.
 pub fn read_all<S: Shelf>(
     alloc: Global,
     shelf: &mut S,

@@ -1,6 +1,15 @@
 //! HMAC-SHA-256 (RFC 2104), and the secrets that a router makes by it for each boot and epoch.
 //!
 //! Nothing here takes memory, and no key or message is refused.
+//!
+//! ```rust
+//! use aip_mac::{hmac, secret};
+//!
+//! // The tag of a text under a router's secret of its first boot and epoch 3.
+//! let master = [7; 32];
+//! let tag = hmac(&secret(&master, 0, 3), b"a text");
+//! assert!(rt; tag != hmac(&secret(&master, 0, 4), b"a text"));
+//! ```
 #![tactic(auto)]
 
 ghost use Rattle.std.specs.Prelude.{◌≡◌, ◌≤◌, ◌++◌, length};

@@ -12,9 +12,7 @@ use Rattle.aip_topo.specs.declared.topology.Part.{Part}
 use Rattle.aip_topo.specs.declared.topology.Part.TheVariants.{Host, Link}
 use Rattle.aip_topo.specs.declared.topology.Topology.{Topology}
 use Rattle.aip_topo.specs.declared.faults.TopoFault.{TopoFault}
-use Rattle.aip_topo.specs.declared.faults.TopoEnd.{TopoEnd}
-use Rattle.aip_topo.specs.declared.faults.TopoEnd.TheVariants as topo_end
-use Rattle.aip_topo.specs.Reading.{topology_of}
+use Rattle.aip_topo.specs.Reading.{RefusedLine, topology_of}
 use Rattle.aip_rules.specs.declared.Entry.{Entry}
 use Rattle.aip_rules.specs.declared.Entry.TheVariants.{Taken, Happened}
 use Rattle.aip_rules.specs.declared.StepFault.{StepFault}
@@ -123,10 +121,9 @@ abbrev pub is_built_topology : Topology → Bool
 is_built_topology topo = if list_all is_open topo.routers then list_all is_plain topo.parts else false
 
 -- the run over what a topology text gives; nothing is run where it is refused or not built
-abbrev pub ran_over : Result Topology TopoEnd → List ℕ → Ran
+abbrev pub ran_over : Result Topology RefusedLine → List ℕ → Ran
 ran_over (Ok topo) schedule = if is_built_topology topo then ran topo schedule else record { trace = []; ending = Topology_unbuilt }
-ran_over (Err (topo_end.Line line f)) schedule = record { trace = []; ending = Topology_refused line f }
-ran_over (Err topo_end.Memory) schedule = record { trace = []; ending = Topology_unbuilt }
+ran_over (Err refused) schedule = record { trace = []; ending = Topology_refused refused.line refused.fault }
 
 -- what ends the text: a refusal line where a line of the schedule is refused
 abbrev pub ending_text : Ending → List ℕ

@@ -1,11 +1,11 @@
 -- Bytes and their spelling in hex.
 use Rattle.std.proofs.Common.{◌≡◌, ◌≢◌, ℕ, zero, suc, ◌+◌, ◌*◌, ◌/◌, ◌%◌, ◌<◌, ◌==◌, Bool, true, false, cond, ◌&&◌, nat_lt, if◌then◌else◌, List, [], ◌∷◌, length, Option, Some, None, Result, Ok, Err, inl, inr, slice_index, refl, sym, ap, ◌∙◌, arith}
-use Rattle.std.specs.Prelude.{IfOk, IfSome, IfNone, codes}
+use Rattle.std.specs.Prelude.{IfOk, IfSome, codes}
 use Rattle.std.specs.List.{list_all}
 use Rattle.std.specs.Result.{result_ok, result_unwrap_or}
 use Rattle.std.specs.Str.{bytes_eq}
 use Rattle.std.proofs.lemmas.Bool.{and_parts, cases_lt, eqb-true, leb-true, le-leb}
-use Rattle.std.proofs.lemmas.Option.{none-some, same_Some}
+use Rattle.std.proofs.lemmas.Option.{same_Some}
 use Rattle.std.proofs.lemmas.Slice.Eq.{bytes_eq-Decides}
 use Rattle.hex.specs.Hex.{IsBytes, decode_of, decode_pairs, decode_sized, digit_or_error, encode_lower, encode_with, hex_digit_value, lower_digits, pair_value, value_at, ◌>>=◌}
 use Rattle.hex.specs.declared.error.FromHexError.{FromHexError}
@@ -101,7 +101,7 @@ list_all-encode_lower (b ∷ bs) h =
 -- ## Words
 
 -- a choice that gave a value
-chosen : {A : Type 0} (b : Bool) (o : Option A) (x : A) → cond b o None ≡ Some x → (b ≡ true) × (o ≡ Some x)
+pub chosen : {A : Type 0} (b : Bool) (o : Option A) (x : A) → cond b o None ≡ Some x → (b ≡ true) × (o ≡ Some x)
 chosen true o x h = (refl, h)
 chosen false o x h = cc h
 
@@ -180,25 +180,22 @@ pub hex_found_in : (word : List ℕ) (r : Option (List ℕ)) → r ≡ hex_of wo
 hex_found_in word (Some bytes) e = hex_found word bytes (sym e)
 hex_found_in word None e = tt
 
-pub hex_none_in : (word : List ℕ) (r : Option (List ℕ)) → r ≡ hex_of word → IfNone r ((bytes : List ℕ) → IsBytes bytes → bytes ≢ [] → word ≡ encode_lower bytes → ⊥)
-hex_none_in word (Some bytes) e = tt
-hex_none_in word None e = λ bytes h some spelled. none-some bytes (e ∙ ap hex_of spelled ∙ hex_again bytes h some)
+pub hex_again_in : (word : List ℕ) (r : Option (List ℕ)) → r ≡ hex_of word → (bytes : List ℕ) → IsBytes bytes → bytes ≢ [] → word ≡ encode_lower bytes → r ≡ Some bytes
+hex_again_in word r e bytes h some spelled = e ∙ ap hex_of spelled ∙ hex_again bytes h some
 
 pub bytes_found_in : (word : List ℕ) (r : Option (List ℕ)) → r ≡ bytes_of word → IfSome r (λ bytes. IsBytes bytes × (word ≡ bytes_word bytes))
 bytes_found_in word (Some bytes) e = bytes_found word bytes (sym e)
 bytes_found_in word None e = tt
 
-pub bytes_none_in : (word : List ℕ) (r : Option (List ℕ)) → r ≡ bytes_of word → IfNone r ((bytes : List ℕ) → IsBytes bytes → word ≡ bytes_word bytes → ⊥)
-bytes_none_in word (Some bytes) e = tt
-bytes_none_in word None e = λ bytes h spelled. none-some bytes (e ∙ ap bytes_of spelled ∙ bytes_again bytes h)
+pub bytes_again_in : (word : List ℕ) (r : Option (List ℕ)) → r ≡ bytes_of word → (bytes : List ℕ) → IsBytes bytes → word ≡ bytes_word bytes → r ≡ Some bytes
+bytes_again_in word r e bytes h spelled = e ∙ ap bytes_of spelled ∙ bytes_again bytes h
 
 pub sized_found_in : (n : ℕ) (word : List ℕ) (r : Option (List ℕ)) → r ≡ hex_sized n word → IfSome r (λ bytes. IsBytes bytes × (word ≡ encode_lower bytes))
 sized_found_in n word (Some bytes) e = let found = hex_sized_found n word bytes (sym e) in (found.0, found.2)
 sized_found_in n word None e = tt
 
-pub sized_none_in : (n : ℕ) (word : List ℕ) (r : Option (List ℕ)) → r ≡ hex_sized n word → IfNone r ((bytes : List ℕ) → IsBytes bytes → length bytes ≡ n → word ≡ encode_lower bytes → ⊥)
-sized_none_in n word (Some bytes) e = tt
-sized_none_in n word None e = λ bytes h sized spelled. none-some bytes (e ∙ ap (hex_sized n) spelled ∙ hex_sized_again n bytes h sized)
+pub sized_again_in : (n : ℕ) (word : List ℕ) (r : Option (List ℕ)) → r ≡ hex_sized n word → (bytes : List ℕ) → IsBytes bytes → length bytes ≡ n → word ≡ encode_lower bytes → r ≡ Some bytes
+sized_again_in n word r e bytes h sized spelled = e ∙ ap (hex_sized n) spelled ∙ hex_sized_again n bytes h sized
 
 pub ok_then : {X E : Type 0} (r : Result X E) {P Q : X → Type 0} → IfOk r P → ((x : X) → P x → Q x) → IfOk r Q
 ok_then (Ok x) h f = f x h

@@ -6,7 +6,7 @@ use Rattle.std.proofs.lemmas.Bool.{and_parts, eqb-true, le-ltb}
 use Rattle.hex.specs.Hex.{IsBytes, encode_lower}
 use Rattle.aip_addr.specs.Naming.{IsName, begins_with_letter, is_digit, is_name_byte}
 use Rattle.aip_text.specs.Words.{bytes_word, cut_at, is_lower_digit, lacks}
-use Rattle.aip_text.proofs.Numbers.{list_all-decimal}
+use Rattle.aip_text.proofs.Numbers.{list_all-decimal, list_all-u64}
 use Rattle.aip_text.proofs.HexWords.{list_all-encode_lower}
 
 -- a byte that passes a test isn't one that fails it
@@ -35,6 +35,9 @@ lacks-append byte (x ∷ xs) ys hx hy =
 
 pub lacks-decimal : (byte n : ℕ) → is_digit byte ≡ false → n < 10 ^ 15 → lacks byte (decimal n) ≡ true
 lacks-decimal byte n fails small = lacks_by is_digit byte (decimal n) fails (list_all-decimal n small)
+
+pub lacks-u64 : (byte n : ℕ) → is_digit byte ≡ false → n < 2 ^ 64 → lacks byte (decimal n) ≡ true
+lacks-u64 byte n fails small = lacks_by is_digit byte (decimal n) fails (list_all-u64 n small)
 
 pub lacks-encode_lower : (byte : ℕ) (bytes : List ℕ) → is_lower_digit byte ≡ false → IsBytes bytes → lacks byte (encode_lower bytes) ≡ true
 lacks-encode_lower byte bytes fails h = lacks_by is_lower_digit byte (encode_lower bytes) fails (list_all-encode_lower bytes h)

@@ -1,18 +1,17 @@
 -- Numbers and their spelling.
-use Rattle.std.proofs.Common.{◌≡◌, ℕ, ◌+◌, ◌-◌, ◌*◌, ◌^◌, ◌<◌, ◌≤◌, Bool, true, false, ◌&&◌, nat_le, List, [], ◌∷◌, length, take, get_or, Option, Some, None, inl, inr, refl, sym, ap, ◌∙◌, arith, add-one, rules}
-use Rattle.std.specs.Prelude.{IfSome, IfNone, decimal}
+use Rattle.std.proofs.Common.{◌≡◌, ℕ, zero, suc, ◌^◌, ◌<◌, Bool, true, false, ◌&&◌, nat_le, nat_lt, List, [], ◌∷◌, length, get_or, Option, Some, None, Result, Err, inl, inr, refl, sym, ap, ◌∙◌, arith, rules}
+use Rattle.std.specs.Prelude.{IfSome, IsUtf8, IsAscii, decimal}
 use Rattle.std.specs.List.{list_all}
-use Rattle.std.specs.Str.Parse.{digits_value}
-use Rattle.std.specs.Char.{digit_value}
-use Rattle.std.proofs.lemmas.Bool.{and_parts, cases_eq, leb-true, le-leb}
+use Rattle.std.specs.Str.Parse.{ParsesUnsigned, digits_value}
+use Rattle.std.proofs.lemmas.Bool.{and_parts, cases_eq, leb-true, le-leb, lt-ltb, ltb-true}
 use Rattle.std.proofs.lemmas.Fmt.{decimal-digits_value, decimal_digit, decimal_nonempty, digits_decimal, digits_value-decimal, first_decimal, length-decimal-le}
-use Rattle.std.proofs.lemmas.Int.Digits.{digits_value_more}
-use Rattle.std.proofs.lemmas.List.Folds.{list_all_at}
-use Rattle.std.proofs.Math.Nat.{pow-le-pow_right, pow-succ'}
-use Rattle.std.proofs.lemmas.Option.{cond_some, none-some}
-use Rattle.std.proofs.lemmas.Str.Parse.{IsNumeralModel, digits_value_short, numerals_by_value}
+use Rattle.std.proofs.lemmas.Str.{IsUtf8-from_ascii}
+use Rattle.std.proofs.lemmas.Option.{cond_some}
+use Rattle.std.proofs.lemmas.Result.{OkIff-at_err}
+use Rattle.std.proofs.lemmas.Str.Parse.{IsNumeralModel, digits_value_short, numerals_by_value, parse_digits}
 use Rattle.aip_addr.specs.Naming.{is_digit}
-use Rattle.aip_text.specs.Words.{has_first_digit, is_number, number_of}
+use Rattle.aip_text.specs.Words.{has_first_digit, number_of, u64_of}
+use Rattle.aip_text.proofs.HexWords.{chosen}
 
 -- the test of digits is the one of parsing
 own : IsNumeralModel (λ ds. list_all is_digit ds ≡ true) (digits_value 10)
@@ -39,75 +38,79 @@ first_of_decimal n small =
     ]
 
 -- what is read is spelled so
+pub u64_found : (word : List ℕ) (n : ℕ) → u64_of word ≡ Some n → (n < 2 ^ 64) × (word ≡ decimal n)
+u64_found word n e =
+    let read = cond_some (has_first_digit word && (list_all is_digit word && nat_lt (digits_value 10 word) (2 ^ 64))) (digits_value 10 word) n e in
+    let start = and_parts (has_first_digit word) (list_all is_digit word && nat_lt (digits_value 10 word) (2 ^ 64)) read.0 in
+    let rest = and_parts (list_all is_digit word) (nat_lt (digits_value 10 word) (2 ^ 64)) start.1 in
+    let first = first_parts word start.0 in
+    let small = ltb-true (digits_value 10 word) (2 ^ 64) rest.1 in
+    (rw (← read.1) small, sym (decimal-digits_value own word rest.0 first.0 first.1 small) ∙ ap decimal read.1)
+
 pub number_found : (word : List ℕ) (n : ℕ) → number_of word ≡ Some n → (n < 10 ^ 15) × (word ≡ decimal n)
 number_found word n e =
-    let read = cond_some (is_number word) (digits_value 10 word) n e in
-    let long = and_parts (nat_le (length word) 15) (has_first_digit word && list_all is_digit word) read.0 in
-    let rest = and_parts (has_first_digit word) (list_all is_digit word) long.1 in
-    let first = first_parts word rest.0 in
-    let small = digits_value_short own word 15 rest.1 (leb-true (length word) 15 long.0) in
-    (rw (← read.1) small, sym (decimal-digits_value own word rest.1 first.0 first.1 (omega (arith, small))) ∙ ap decimal read.1)
+    let read = chosen (nat_le (length word) 15) (u64_of word) n e in
+    let value = cond_some (has_first_digit word && (list_all is_digit word && nat_lt (digits_value 10 word) (2 ^ 64))) (digits_value 10 word) n read.1 in
+    let start = and_parts (has_first_digit word) (list_all is_digit word && nat_lt (digits_value 10 word) (2 ^ 64)) value.0 in
+    let rest = and_parts (list_all is_digit word) (nat_lt (digits_value 10 word) (2 ^ 64)) start.1 in
+    let small = digits_value_short own word 15 rest.0 (leb-true (length word) 15 read.0) in
+    (rw (← value.1) small, (u64_found word n read.1).1)
 
 -- what is spelled so is read
+pub u64_again : (n : ℕ) → n < 2 ^ 64 → u64_of (decimal n) ≡ Some n
+u64_again n small = rw (first_of_decimal n small, digits_decimal own n small, digits_value-decimal own n small, lt-ltb n (2 ^ 64) small) refl
+
 pub number_again : (n : ℕ) → n < 10 ^ 15 → number_of (decimal n) ≡ Some n
 number_again n small =
     let fits : n < 2 ^ 64 = omega arith in
     let short = le-leb (length (decimal n)) 15 (length-decimal-le 15 n (omega arith) small fits) in
-    rw (short, first_of_decimal n fits, digits_decimal own n fits, digits_value-decimal own n fits) refl
+    rw short (u64_again n fits)
+
+-- ## As the readers' clauses say it
+
+pub u64_found_in : (word : List ℕ) (r : Option ℕ) → r ≡ u64_of word → IfSome r (λ n. (n < 2 ^ 64) × (word ≡ decimal n))
+u64_found_in word (Some n) e = u64_found word n (sym e)
+u64_found_in word None e = tt
+
+pub u64_again_in : (word : List ℕ) (r : Option ℕ) → r ≡ u64_of word → (n : ℕ) → n < 2 ^ 64 → word ≡ decimal n → r ≡ Some n
+u64_again_in word r e n small spelled = e ∙ ap u64_of spelled ∙ u64_again n small
 
 pub number_found_in : (word : List ℕ) (r : Option ℕ) → r ≡ number_of word → IfSome r (λ n. (n < 10 ^ 15) × (word ≡ decimal n))
 number_found_in word (Some n) e = number_found word n (sym e)
 number_found_in word None e = tt
 
-pub number_none_in : (word : List ℕ) (r : Option ℕ) → r ≡ number_of word → IfNone r ((n : ℕ) → n < 10 ^ 15 → word ≡ decimal n → ⊥)
-number_none_in word (Some n) e = tt
-number_none_in word None e = λ n small spelled. none-some n (e ∙ ap number_of spelled ∙ number_again n small)
+pub number_again_in : (word : List ℕ) (r : Option ℕ) → r ≡ number_of word → (n : ℕ) → n < 10 ^ 15 → word ≡ decimal n → r ≡ Some n
+number_again_in word r e n small spelled = e ∙ ap number_of spelled ∙ number_again n small
 
--- ## The loop over the digits
+-- ## Parsing
 
--- a digit's value
-digit_value_is : (c : ℕ) → is_digit c ≡ true → digit_value c ≡ c - 48
-digit_value_is c h = grind arith
+-- digits are ASCII
+ascii_digits : (ds : List ℕ) → list_all is_digit ds ≡ true → IsUtf8 ds
+ascii_digits ds all = IsUtf8-from_ascii ds (ascii ds all)
+  where
+    ascii : (ds : List ℕ) → list_all is_digit ds ≡ true → IsAscii ds
+    ascii [] all i = omega arith
+    ascii (d ∷ ds) all zero = let parts = and_parts (is_digit d) (list_all is_digit ds) all in grind arith
+    ascii (d ∷ ds) all (suc i) = let parts = and_parts (is_digit d) (list_all is_digit ds) all in ascii ds parts.1 i
 
--- each of some digits is a digit
-different : true ≡ false → ⊥
-different h = cc h
+-- digits that aren't UTF-8 are none
+pub not_utf8 : (word : List ℕ) → ¬ (IsUtf8 word) → list_all is_digit word ≡ true → None ≡ u64_of word
+not_utf8 word bad all = absurd (bad (ascii_digits word all))
 
-not_false : (b : Bool) → (b ≡ false → ⊥) → b ≡ true
-not_false true h = refl
-not_false false h = absurd (h refl)
-
-digit_among : (ds : List ℕ) (i : ℕ) → list_all is_digit ds ≡ true → i < length ds → is_digit (get_or ds i 0) ≡ true
-digit_among ds i all inside =
-    not_false (is_digit (get_or ds i 0)) (λ isnt. different (sym all ∙ list_all_at is_digit ds i 0 inside isnt))
-
--- while fewer than 15 digits are read there is room for one more
-pub room : (i n : ℕ) → i < 15 → n < 10 ^ i → n < 10 ^ 14
-room i n inside small =
-    let wide : 10 ^ i ≤ 10 ^ 14 = pow-le-pow_right {n = 10} (omega arith) {i = i} {j = 14} (omega arith) in
-    omega (arith, wide)
-
--- a digit's value is below ten
-digit_small : (c : ℕ) → is_digit c ≡ true → (48 ≤ c) × (c - 48 < 10)
-digit_small c h =
-    let parts = and_parts (nat_le 48 c) (nat_le c 57) h in
-    let low = leb-true 48 c parts.0 in
-    let high = leb-true c 57 parts.1 in
-    (low, omega (arith, low, high))
-
-pub digit_at : (ds : List ℕ) (i : ℕ) → list_all is_digit ds ≡ true → i < length ds → (48 ≤ get_or ds i 0) × (get_or ds i 0 - 48 < 10)
-digit_at ds i all inside = digit_small (get_or ds i 0) (digit_among ds i all inside)
-
--- one digit more is read
-pub digit_step : (ds : List ℕ) (i n : ℕ) → list_all is_digit ds ≡ true → i < length ds → n ≡ digits_value 10 (take i ds) → n < 10 ^ i
-    → (10 * n + (get_or ds i 0 - 48) ≡ digits_value 10 (take (i + 1) ds)) × (10 * n + (get_or ds i 0 - 48) < 10 ^ (i + 1))
-digit_step ds i n all inside value small =
-    let digit = digit_at ds i all inside in
-    let grown : 10 ^ (i + 1) ≡ 10 * 10 ^ i = ap (λ k. 10 ^ k) (add-one i) ∙ pow-succ' 10 i in
-    let more = digits_value_more 10 ds i inside in
-    let same = digit_value_is (get_or ds i 0) (digit_among ds i all inside) in
-    (rw (more, same, ← value) (omega arith), omega (arith, grown, digit.1))
+-- digits that aren't parsed are too large
+pub not_parsed : {E : Type 0} (word : List ℕ) (r : Result ℕ E) (e : E) → ParsesUnsigned 64 10 word r → r ≡ Err e → has_first_digit word ≡ true → list_all is_digit word ≡ true → None ≡ u64_of word
+not_parsed word r e parses is start all =
+    let large : nat_lt (digits_value 10 word) (2 ^ 64) ≡ true → ⊥ =
+    λ small. OkIff-at_err r _ _ e (parse_digits own 64 word r parses all) is ((first_parts word start).0, ltb-true (digits_value 10 word) (2 ^ 64) small) in
+    rw (start, all, not_true (nat_lt (digits_value 10 word) (2 ^ 64)) large) refl
+  where
+    not_true : (b : Bool) → (b ≡ true → ⊥) → b ≡ false
+    not_true true h = absurd (h refl)
+    not_true false h = refl
 
 -- a number's word is digits
+pub list_all-u64 : (n : ℕ) → n < 2 ^ 64 → list_all is_digit (decimal n) ≡ true
+list_all-u64 n small = digits_decimal own n small
+
 pub list_all-decimal : (n : ℕ) → n < 10 ^ 15 → list_all is_digit (decimal n) ≡ true
-list_all-decimal n small = digits_decimal own n (omega (arith, small))
+list_all-decimal n small = list_all-u64 n (omega (arith, small))

@@ -1,5 +1,5 @@
 -- The words of a text file: numbers and bytes in hex, and where a word ends.
-use Rattle.std.specs.Prelude.{◌≡◌, ℕ, ◌+◌, ◌==◌, ◌&&◌, ◌||◌, Bool, true, false, not, if◌then◌else◌, nat_le, nat_lt, List, [], ◌∷◌, ◌++◌, length, take, drop, position, codes, Option, Some, None}
+use Rattle.std.specs.Prelude.{◌≡◌, ℕ, ◌+◌, ◌^◌, ◌==◌, ◌&&◌, ◌||◌, Bool, true, false, not, if◌then◌else◌, nat_le, nat_lt, List, [], ◌∷◌, ◌++◌, length, take, drop, position, codes, Option, Some, None}
 use Rattle.std.specs.List.{list_all}
 use Rattle.std.specs.Option.{option_map}
 use Rattle.std.specs.Result.{result_ok}
@@ -14,13 +14,14 @@ has_first_digit [] = false
 has_first_digit (d ∷ []) = true
 has_first_digit (d ∷ e ∷ ds) = not (d == 48)
 
--- 1 to 15 digits without a leading zero
-abbrev pub is_number : List ℕ → Bool
-is_number word = nat_le (length word) 15 && (has_first_digit word && list_all is_digit word)
+-- the number below 2^64 that a word spells in decimal, without a leading zero
+abbrev pub u64_of : List ℕ → Option ℕ
+u64_of word =
+    if has_first_digit word && (list_all is_digit word && nat_lt (digits_value 10 word) (2 ^ 64)) then Some (digits_value 10 word) else None
 
--- the number that a word spells in decimal
+-- the same of at most 15 digits
 abbrev pub number_of : List ℕ → Option ℕ
-number_of word = if is_number word then Some (digits_value 10 word) else None
+number_of word = if nat_le (length word) 15 then u64_of word else None
 
 -- a digit of hex, in lower case
 abbrev pub is_lower_digit : ℕ → Bool

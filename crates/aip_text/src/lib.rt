@@ -5,14 +5,14 @@
 //! in lower case. A reader takes just that spelling, and a writer appends it.
 #![tactic(auto)]
 
+mod fields;
 mod lines;
 mod reading;
 mod writing;
 
-pub use lines::{FirstLine, has_carriage_return, is_skipped, next_line};
-pub use reading::{
-    cut, cut_at, read_bytes, read_hex, read_hex_19, read_hex_20, read_hex_32, read_number,
-};
+pub use fields::{five_words, four_words, read_id, read_name, three_words};
+pub use lines::{FirstLine, LONGEST_LINE, has_carriage_return, is_skipped, next_line};
+pub use reading::{cut, cut_at, read_bytes, read_hex, read_hex_array, read_number, read_u64};
 pub use writing::{push_bytes, push_hex, push_number, push_space, push_text, push_word};
 
 #[cfg(test)]

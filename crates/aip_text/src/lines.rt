@@ -3,6 +3,9 @@ ghost use Rattle.aip_text.specs.Lines.{has_carriage_return, has_no_line_feed, is
 
 use crate::reading::place_of;
 
+/// The most bytes of a line, without its line feed.
+pub const LONGEST_LINE: usize = 20_000;
+
 /// The first line of a text, and the rest.
 #[derive(Clone, Copy, Debug)]
 pub struct FirstLine<'a> {

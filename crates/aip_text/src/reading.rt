@@ -1,10 +1,9 @@
-ghost use Rattle.std.specs.Prelude.{◌≡◌, ◌≢◌, ℕ, ◌^◌, ◌<◌, ◌≤◌, ◌++◌, ◌∷◌, [], List, length, ◌==◌, position, if◌then◌else◌, Some, None, IfOk, IfNone, IfSome, IsTrue, decimal};
+ghost use Rattle.std.specs.Prelude.{◌≡◌, ◌≢◌, ℕ, ◌^◌, ◌<◌, ◌≤◌, ◌++◌, ◌∷◌, [], List, length, ◌==◌, position, if◌then◌else◌, Some, None, IfOk, IfSome, IsTrue, decimal};
 ghost use Rattle.std.specs.List.{list_all};
 ghost use Rattle.std.specs.Option.{option_map};
-ghost use Rattle.std.specs.Str.Parse.{digits_value};
 ghost use Rattle.aip_addr.specs.Naming.{is_digit};
 ghost use Rattle.hex.specs.Hex.{IsBytes, encode_lower};
-ghost use Rattle.aip_text.specs.Words.{bytes_of, bytes_word, cut, cut_at, has_first_digit, hex_of, hex_sized, is_lower_digit, number_of};
+ghost use Rattle.aip_text.specs.Words.{bytes_of, bytes_word, cut, cut_at, has_first_digit, hex_of, hex_sized, is_lower_digit, number_of, u64_of};
 
 use aip_addr::Bytes;
 use hex::FromHexError;
@@ -18,7 +17,7 @@ const MOST_DIGITS: usize = 15;
 pub fn read_number(word: &[u8]) -> Option<u64>
     ensures exact { result ≡ number_of word.now }
     ensures found { IfSome result (λ n. (n < 10 ^ 15) × (word.now ≡ decimal n)) }
-    ensures none { IfNone result ((n : ℕ) → n < 10 ^ 15 → word.now ≡ decimal n → ⊥) }
+    ensures again { (n : ℕ) → n < 10 ^ 15 → word.now ≡ decimal n → result ≡ Some n }
 {
     number_in(word)
 }
@@ -26,10 +25,36 @@ pub fn read_number(word: &[u8]) -> Option<u64>
 fn number_in(word: &[u8]) -> Option<u64>
     ensures { result ≡ number_of word.now }
 {
-    if word.len() > MOST_DIGITS || !has_first_digit(word) || !has_digits(word) {
+    if word.len() > MOST_DIGITS {
+        None
+    } else {
+        u64_in(word)
+    }
+}
+
+/// The number below 2^64 that the word spells in decimal, without a leading zero, and None where it
+/// is no such number.
+pub fn read_u64(word: &[u8]) -> Option<u64>
+    ensures exact { result ≡ u64_of word.now }
+    ensures found { IfSome result (λ n. (n < 2 ^ 64) × (word.now ≡ decimal n)) }
+    ensures again { (n : ℕ) → n < 2 ^ 64 → word.now ≡ decimal n → result ≡ Some n }
+{
+    u64_in(word)
+}
+
+fn u64_in(word: &[u8]) -> Option<u64>
+    ensures { result ≡ u64_of word.now }
+{
+    if !has_first_digit(word) || !has_digits(word) {
         return None;
     }
-    Some(number_of_digits(word))
+    match str::from_utf8(word) {
+        Ok(digits) => match u64::from_str_radix(digits, 10) {
+            Ok(number) => Some(number),
+            Err(_) => None,
+        },
+        Err(_) => None,
+    }
 }
 
 fn has_first_digit(word: &[u8]) -> bool
@@ -48,24 +73,12 @@ fn has_digits(word: &[u8]) -> bool
     word.iter().all(|&b| matches!(b, b'0'..=b'9'))
 }
 
-fn number_of_digits(digits: &[u8]) -> u64
-    requires length { length digits.now ≤ 15 }
-    requires digits { IsTrue (list_all is_digit digits.now) }
-    ensures { result ≡ digits_value 10 digits.now }
-{
-    let mut number = 0;
-    for digit in digits {
-        number = 10 * number + u64::from(*digit - b'0');
-    }
-    number
-}
-
 /// The bytes that the word spells in hex: one or more pairs of digits in lower case, the high four
 /// bits first. The only error is want of memory.
 pub fn read_hex(alloc: Global, word: &[u8]) -> Result<Option<Bytes>, AllocError>
     ensures exact { IfOk result (λ bytes. bytes ≡ hex_of word.now) }
     ensures found { IfOk result (λ r. IfSome r (λ bytes. IsBytes bytes × (bytes ≢ []) × (word.now ≡ encode_lower bytes))) }
-    ensures none { IfOk result (λ r. IfNone r ((bytes : List ℕ) → IsBytes bytes → bytes ≢ [] → word.now ≡ encode_lower bytes → ⊥)) }
+    ensures again { IfOk result (λ r. (bytes : List ℕ) → IsBytes bytes → bytes ≢ [] → word.now ≡ encode_lower bytes → r ≡ Some bytes) }
 {
     hex_in(alloc, word)
 }
@@ -88,7 +101,7 @@ fn hex_in(alloc: Global, word: &[u8]) -> Result<Option<Bytes>, AllocError>
 pub fn read_bytes(alloc: Global, word: &[u8]) -> Result<Option<Bytes>, AllocError>
     ensures exact { IfOk result (λ bytes. bytes ≡ bytes_of word.now) }
     ensures found { IfOk result (λ r. IfSome r (λ bytes. IsBytes bytes × (word.now ≡ bytes_word bytes))) }
-    ensures none { IfOk result (λ r. IfNone r ((bytes : List ℕ) → IsBytes bytes → word.now ≡ bytes_word bytes → ⊥)) }
+    ensures again { IfOk result (λ r. (bytes : List ℕ) → IsBytes bytes → word.now ≡ bytes_word bytes → r ≡ Some bytes) }
 {
     bytes_in(alloc, word)
 }
@@ -102,59 +115,20 @@ fn bytes_in(alloc: Global, word: &[u8]) -> Result<Option<Bytes>, AllocError>
     hex_in(alloc, word)
 }
 
-/// The 19 bytes that the word spells in hex, by 38 digits in lower case.
-pub fn read_hex_19(word: &[u8]) -> Option<[u8; 19]>
-    ensures exact { result ≡ hex_sized 19 word.now }
+/// The bytes that the word spells in hex, by just two digits in lower case for each of them, the
+/// high four bits first.
+pub fn read_hex_array<const N: usize>(word: &[u8]) -> Option<[u8; N]>
+    ensures exact { result ≡ hex_sized N word.now }
     ensures found { IfSome result (λ bytes. IsBytes bytes × (word.now ≡ encode_lower bytes)) }
-    ensures none { IfNone result ((bytes : List ℕ) → IsBytes bytes → length bytes ≡ 19 → word.now ≡ encode_lower bytes → ⊥) }
+    ensures again { (bytes : List ℕ) → IsBytes bytes → length bytes ≡ N → word.now ≡ encode_lower bytes → result ≡ Some bytes }
 {
-    hex_19_in(word)
+    hex_array_in(word)
 }
 
-fn hex_19_in(word: &[u8]) -> Option<[u8; 19]>
-    ensures { result ≡ hex_sized 19 word.now }
+fn hex_array_in<const N: usize>(word: &[u8]) -> Option<[u8; N]>
+    ensures { result ≡ hex_sized N word.now }
 {
-    let mut bytes = [0; 19];
-    if fill_from_hex(word, &mut bytes) {
-        Some(bytes)
-    } else {
-        None
-    }
-}
-
-/// The 20 bytes that the word spells in hex, by 40 digits in lower case.
-pub fn read_hex_20(word: &[u8]) -> Option<[u8; 20]>
-    ensures exact { result ≡ hex_sized 20 word.now }
-    ensures found { IfSome result (λ bytes. IsBytes bytes × (word.now ≡ encode_lower bytes)) }
-    ensures none { IfNone result ((bytes : List ℕ) → IsBytes bytes → length bytes ≡ 20 → word.now ≡ encode_lower bytes → ⊥) }
-{
-    hex_20_in(word)
-}
-
-fn hex_20_in(word: &[u8]) -> Option<[u8; 20]>
-    ensures { result ≡ hex_sized 20 word.now }
-{
-    let mut bytes = [0; 20];
-    if fill_from_hex(word, &mut bytes) {
-        Some(bytes)
-    } else {
-        None
-    }
-}
-
-/// The 32 bytes that the word spells in hex, by 64 digits in lower case.
-pub fn read_hex_32(word: &[u8]) -> Option<[u8; 32]>
-    ensures exact { result ≡ hex_sized 32 word.now }
-    ensures found { IfSome result (λ bytes. IsBytes bytes × (word.now ≡ encode_lower bytes)) }
-    ensures none { IfNone result ((bytes : List ℕ) → IsBytes bytes → length bytes ≡ 32 → word.now ≡ encode_lower bytes → ⊥) }
-{
-    hex_32_in(word)
-}
-
-fn hex_32_in(word: &[u8]) -> Option<[u8; 32]>
-    ensures { result ≡ hex_sized 32 word.now }
-{
-    let mut bytes = [0; 32];
+    let mut bytes = [0; N];
     if fill_from_hex(word, &mut bytes) {
         Some(bytes)
     } else {

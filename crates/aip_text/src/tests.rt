@@ -10,6 +10,12 @@ fn numbers_have_one_spelling(rt: HostRuntime) -> Result<(), Fail> {
     assert_eq!(rt; read_number(b"01"), None);
     assert_eq!(rt; read_number(b"+1"), None);
     assert_eq!(rt; read_number(b""), None);
+    assert_eq!(rt; read_u64(b"0"), Some(0));
+    assert_eq!(rt; read_u64(b"18446744073709551615"), Some(u64::MAX));
+    assert_eq!(rt; read_u64(b"18446744073709551616"), None);
+    assert_eq!(rt; read_u64(b"100000000000000000000"), None);
+    assert_eq!(rt; read_u64(b"00"), None);
+    assert_eq!(rt; read_u64(b"+1"), None);
     let mut line = Vec::new(rt.alloc());
     push_text(&mut line, b"tick")?;
     push_space(&mut line)?;
@@ -39,14 +45,32 @@ fn bytes_are_hex_in_lower_case(rt: HostRuntime) -> Result<(), Fail> {
 
 #[test]
 fn hex_of_a_fixed_length(rt: HostRuntime) -> Result<(), Fail> {
-    let ad = read_hex_20(b"0111111111111111111111111111111111111100").ok_or("20 bytes")?;
-    assert_eq!(rt; ad[0], 1);
-    assert_eq!(rt; ad[18], 17);
-    let id = read_hex_19(b"01aaaaaaaaaaaaaaaaaaaaaaaaaaaaaaaaaaaa").ok_or("19 bytes")?;
+    let ad = read_id(b"0111111111111111111111111111111111111100").ok_or("20 bytes")?;
+    assert_eq!(rt; ad.bytes[0], 1);
+    assert_eq!(rt; ad.bytes[18], 17);
+    let id: [u8; 19] = read_hex_array(b"01aaaaaaaaaaaaaaaaaaaaaaaaaaaaaaaaaaaa").ok_or("19 bytes")?;
     assert_eq!(rt; id[18], 170);
     let seed = b"0000000000000000000000000000000000000000000000000000000000000009";
-    assert_eq!(rt; read_hex_32(seed).ok_or("32 bytes")?[31], 9);
-    assert!(rt; read_hex_20(seed).is_none());
+    let bytes: [u8; 32] = read_hex_array(seed).ok_or("32 bytes")?;
+    assert_eq!(rt; bytes[31], 9);
+    assert!(rt; read_id(seed).is_none());
+    Ok(())
+}
+
+#[test]
+fn words_have_one_space_between_them(rt: HostRuntime) -> Result<(), Fail> {
+    let (router, in_port, out_port) = three_words(b"r 1 22").ok_or("three")?;
+    assert_eq!(rt; router, b"r".as_slice());
+    assert_eq!(rt; in_port, b"1".as_slice());
+    assert_eq!(rt; out_port, b"22".as_slice());
+    assert!(rt; four_words(b"r 1 22").is_none());
+    let (.., fourth) = four_words(b"a b c d").ok_or("four")?;
+    assert_eq!(rt; fourth, b"d".as_slice());
+    let (.., fifth) = five_words(b"a b c  d").ok_or("five")?;
+    assert_eq!(rt; fifth, b"d".as_slice());
+    let name = read_name(b"r-1").ok_or("a name")?;
+    assert_eq!(rt; name.bytes(), b"r-1".as_slice());
+    assert!(rt; read_name(b"1r").is_none());
     Ok(())
 }
 

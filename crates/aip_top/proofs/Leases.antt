@@ -1,30 +1,45 @@
 -- What a lease comes to, by the topology.
-use Rattle.std.proofs.Common.{◌≡◌, ◌⊎◌, inl, inr, ℕ, Bool, true, false, List, arith, Option, Some, None, refl, ap, sym, subst, ◌∙◌}
-use Rattle.std.specs.Prelude.{IfSome}
+use Rattle.std.proofs.Common.{◌≡◌, ◌≢◌, ◌≤◌, ◌⊎◌, inl, inr, ℕ, Bool, true, false, List, [], length, arith, Option, Some, None, Ok, Err, refl, ap, sym, subst, ◌∙◌}
+use Rattle.std.specs.Prelude.{IfErr, IfOk, IfSome, Result, max}
+use Rattle.std.proofs.lemmas.List.{append-nil}
 use Rattle.std.proofs.lemmas.Bool.{cond-true, cond-false}
-use Rattle.leaf_lease.specs.LeaseFile.{IsOpen, is_open, kept_id, kept_height}
 use Rattle.std.proofs.lemmas.Bool.Decides.{nat_tests}
+use Rattle.lms_core.specs.Tree.{identifier_of}
+use Rattle.lms_core.specs.Parameters.{levels_of}
+use Rattle.lease_disk.specs.Images.{AtEachMoment}
+use Rattle.lease_disk.specs.Moments.{at_start, weakened}
+use Rattle.leaf_lease.specs.LeaseFile.{IsOpen, is_open, kept_id, kept_height, file_size}
+use Rattle.leaf_lease.specs.Format.{IsFresh}
+use Rattle.aip_io.specs.Sink.{and_then, TookPart}
 use Rattle.aip_topo.specs.declared.topology.Domain.{Domain}
-use Rattle.aip_top.specs.Words.{Command, Lease, Leased, OfLease}
-use Rattle.aip_top.specs.Judged.{IsJudged}
-use Rattle.aip_top.specs.Leasing.{Asked, Refused, Keyed, OfKey, LeaseSays, asked_of_domain, lease_end, refusal_in}
-use Rattle.aip_top.specs.Outcomes.{IsOrMemory}
-use Rattle.aip_top.specs.Statuses.{is_disk_fault, IsEarly}
+use Rattle.aip_topo.specs.declared.topology.Topology.{Topology}
+use Rattle.aip_topo.specs.declared.faults.TopoEnd.{TopoEnd}
+use Rattle.aip_topo.specs.declared.faults.TopoEnd.TheVariants as topo_end
+use Rattle.aip_topo.specs.Reading.{topology_of}
+use Rattle.aip_sim.specs.Causes.{HasCause}
+use Rattle.aip_top.specs.declared.lease.Wanted.{Wanted}
 use Rattle.aip_top.specs.declared.status.Status.{Status}
 use Rattle.aip_top.specs.declared.status.Status.TheVariants as status
 use Rattle.aip_top.specs.declared.status.LeaseFault.TheVariants as fault
+use Rattle.aip_top.specs.Commands.{LeaseOf}
+use Rattle.aip_top.specs.Judged.{refusal_of, refusal_over, IsEarly, IsOpeningEnd, IsOrMemory}
+use Rattle.aip_top.specs.Leasing.{Asked, Refused, Keyed, Formats, HasFresh, IsBeforeDisk, IsFormatted, KeepsOpen, LeaseSays, OfKey, asked_in, asked_of, asked_of_domain, asked_over, lease_end, lease_text, refusal_in}
+use Rattle.aip_top.specs.Statuses.{kind_of}
+use Rattle.aip_top.specs.Wanted.{IsWanted}
+use Rattle.aip_top.specs.Words.{Lease, Leased}
+use Rattle.aip_top.specs.Written.{WritesOnDone}
+
+-- to take nothing is to stay
+and_nothing : (taken : Option (List ℕ)) → and_then taken [] ≡ taken
+and_nothing None = refl
+and_nothing (Some xs) = ap Some (append-nil xs)
+
+took_nothing : (taken : Option (List ℕ)) (bytes : List ℕ) → TookPart taken taken bytes
+took_nothing taken bytes = record { part = []; rest = bytes; whole = refl; took = sym (and_nothing taken) }
 
 -- a name that no domain has is unknown
-pub no_domain : (found : Option Domain) → None ≡ found → IsJudged (refusal_in (asked_of_domain found)) (status.Lease fault.Unknown)
+pub no_domain : (found : Option Domain) → None ≡ found → IsEarly (refusal_in (asked_of_domain found)) (status.Lease fault.Unknown)
 no_domain found none = inr (ap (λ o. refusal_in (asked_of_domain o)) (sym none))
-
--- what holds of the command that the words spell
-pub of_command : (found : Option Command) (command : Command) (holds : Command → Type 0) → found ≡ Some command → holds command → IfSome found holds
-of_command found command holds is here = subst (λ o. IfSome o holds) (sym is) here
-
--- what holds of the lease that the words spell
-pub of_lease : (found : Option Command) (leased : Leased) (holds : Leased → Type 0) → found ≡ Some (Lease leased) → holds leased → OfLease found holds
-of_lease found leased holds is here = subst (λ o. OfLease o holds) (sym is) here
 
 open_is : (file : List ℕ) → IsOpen file → is_open file ≡ true
 open_is file opened =
@@ -53,8 +68,8 @@ open_end file id height opened same_id same_height =
     ∙ ap (λ h. status.Lease (fault.Already id h)) (sym same_height)
 
 -- how a lease that reached the disk ends, where nothing failed
-ends_told : (file : List ℕ) (end : Status) (A B C : Type 0) → LeaseSays (Some file) end → (IsEarly end → ⊥) → (end ≡ status.WriteFault → B)
-    → (is_disk_fault end ≡ true → C) → ¬ A → ¬ B → ¬ C → IsOrMemory (lease_end file) end
+ends_told : (file : List ℕ) (end : Status) (A B C : Type 0) → LeaseSays (Some file) end → (IsBeforeDisk end → ⊥) → (end ≡ status.WriteFault → B)
+    → (end ≡ status.DiskFault → C) → (A → ⊥) → (B → ⊥) → (C → ⊥) → IsOrMemory (lease_end file) end
 ends_told file status.Done A B C says late write disk a b c = inl (sym (closed_end file (says file refl)))
 ends_told file status.WriteFault A B C says late write disk a b c = absurd (b (write refl))
 ends_told file (status.Lease (fault.Already id height)) A B C says late write disk a b c =
@@ -71,16 +86,181 @@ ends_told file (status.Schedule line f) A B C says late write disk a b c = absur
 ends_told file status.Unbuilt A B C says late write disk a b c = absurd says
 
 -- the same over every disk
-pub lease_ends : (content : Option (List ℕ)) (end : Status) (A B C : Type 0) → LeaseSays content end → (IsEarly end → ⊥) → (end ≡ status.WriteFault → B)
-    → (is_disk_fault end ≡ true → C) → IfSome content (λ file. ¬ A → ¬ B → ¬ C → IsOrMemory (lease_end file) end)
+lease_ends : (content : Option (List ℕ)) (end : Status) (A B C : Type 0) → LeaseSays content end → (IsBeforeDisk end → ⊥) → (end ≡ status.WriteFault → B)
+    → (end ≡ status.DiskFault → C) → IfSome content (λ file. (A → ⊥) → (B → ⊥) → (C → ⊥) → IsOrMemory (lease_end file) end)
 lease_ends None end A B C says late write disk = tt
 lease_ends (Some file) end A B C says late write disk = ends_told file end A B C says late write disk
 
-of_key : (asked : Asked) (P : Type 0) → P → OfKey asked (λ key. P)
-of_key (Refused end) P here = tt
-of_key (Keyed key) P here = here
+-- ## A lease that reached the disk
 
--- what holds whatever the topology's text says holds where it is told
-pub of_text : (text : Option (List ℕ)) (asked : List ℕ → Asked) (P : Type 0) → P → IfSome text (λ told. OfKey (asked told) (λ key. P))
-of_text None asked P here = tt
-of_text (Some told) asked P here = of_key (asked told) P here
+module _ {D : Type 0} (content : D → Option (List ℕ)) (may_leave : D → List ℕ → Type 0) (clock : D → ℕ) (during : D → ℕ → List ℕ → Type 0) where
+  -- what comes of a key, where this is wanted
+  of_wanted : (asked : Asked) (w : Wanted) (unread unwritten failed : Type 0) (end : Status) (disk after : D) (old new : Option (List ℕ)) → IsWanted asked w → LeaseSays (content disk) end
+      → (IsFormatted end → HasFresh content may_leave w.id w.height disk after) → Formats content may_leave clock during w.id w.height disk after → WritesOnDone w.text.items end old new
+      → (IsBeforeDisk end → ⊥) → (end ≡ status.WriteFault → unwritten) → (end ≡ status.DiskFault → failed)
+      → OfKey asked (λ key. LeaseOf content may_leave clock during key unread unwritten failed end disk after old new)
+  of_wanted (Refused refused) w unread unwritten failed end disk after old new wanted says fresh moments writes late put sync = absurd wanted
+  of_wanted (Keyed key) w unread unwritten failed end disk after old new wanted says fresh moments writes late put sync = record {
+    says = says;
+    formatted = λ done. subst (λ h. HasFresh content may_leave (identifier_of key.seed) h disk after) wanted.height (subst (λ i. HasFresh content may_leave i w.height disk after) wanted.id (fresh done));
+    moments = subst (λ h. Formats content may_leave clock during (identifier_of key.seed) h disk after) wanted.height (subst (λ i. Formats content may_leave clock during i w.height disk after) wanted.id moments);
+    writes = subst (λ text. WritesOnDone text end old new) wanted.text writes;
+    complete = lease_ends (content disk) end unread unwritten failed says late put sync;
+  }
+
+  pub reached : (t : Option (List ℕ)) (asked : List ℕ → Asked) (w : Wanted) (unread unwritten failed : Type 0) (end : Status) (disk after : D) (old new : Option (List ℕ)) → IfSome t (λ told. IsWanted (asked told) w)
+      → LeaseSays (content disk) end → (IsFormatted end → HasFresh content may_leave w.id w.height disk after) → Formats content may_leave clock during w.id w.height disk after → WritesOnDone w.text.items end old new
+      → (IsBeforeDisk end → ⊥) → (end ≡ status.WriteFault → unwritten) → (end ≡ status.DiskFault → failed)
+      → IfSome t (λ told. OfKey (asked told) (λ key. LeaseOf content may_leave clock during key unread unwritten failed end disk after old new))
+  reached None asked w unread unwritten failed end disk after old new wanted says fresh moments writes late put sync = tt
+  reached (Some told) asked w unread unwritten failed end disk after old new wanted says fresh moments writes late put sync =
+      of_wanted (asked told) w unread unwritten failed end disk after old new wanted says fresh moments writes late put sync
+
+  -- no image is longer than the file of a key of height 10
+  pub no_longer : (old new : D) (id : List ℕ) (height : ℕ) → (height ≡ 5) ⊎ (height ≡ 10) → Formats content may_leave clock during id height old new
+      → (longest : ℕ) → ((image : List ℕ) → may_leave old image → length image ≤ longest) → AtEachMoment clock during old new (λ image. length image ≤ max longest (file_size 10))
+  no_longer old new id height tall formats longest all =
+      weakened may_leave clock during old new (λ image. length image ≤ max longest (file_size height)) (λ image. length image ≤ max longest (file_size 10)) (formats.lengths longest all)
+      (λ image short. fits (length image) short)
+    where
+      fits : (n : ℕ) → n ≤ max longest (file_size height) → n ≤ max longest (file_size 10)
+      fits n short = elim tall [
+        | inl is ↦ let at : n ≤ max longest (file_size 5) = subst (λ h. n ≤ max longest (file_size h)) is short in omega arith
+        | inr is ↦ subst (λ h. n ≤ max longest (file_size h)) is short
+      ]
+
+  -- a disk that isn't touched
+  formats_same : ((disk : D) (image : List ℕ) → during disk (clock disk) image → may_leave disk image) → (disk : D) (id : List ℕ) (height : ℕ) → Formats content may_leave clock during id height disk disk
+  formats_same only disk id height = record {
+    lengths = λ longest all. at_start may_leave clock during disk (λ image. length image ≤ max longest (file_size height)) (only disk) (λ image left. let short : length image ≤ longest = all image left in omega arith);
+    fresh = λ file reads firm closed. at_start may_leave clock during disk (IsFresh id height) (only disk)
+        (λ image left opened. absurd (closed (let same : image ≡ file = (let firmly : content disk ≡ Some image = firm image left in cc) in subst IsOpen same opened)));
+  }
+
+  -- a lease that ends before the disk is touched leaves it as it was
+  pub before : (t : Option (List ℕ)) (asked : List ℕ → Asked) (unread unwritten failed : Type 0) (end : Status) (disk : D) (old : Option (List ℕ)) → IfSome t (λ told. IsEarly (refusal_in (asked told)) end)
+      → (end ≡ status.ReadFault → unread) → IsBeforeDisk end
+      → ((disk : D) (image : List ℕ) → during disk (clock disk) image → may_leave disk image)
+      → IfSome t (λ told. OfKey (asked told) (λ key. LeaseOf content may_leave clock during key unread unwritten failed end disk disk old old))
+  before None asked unread unwritten failed end disk old ended rose early only = tt
+  before (Some told) asked unread unwritten failed end disk old ended rose early only = each (asked told) ended
+    where
+      each : (a : Asked) → IsEarly (refusal_in a) end → OfKey a (λ key. LeaseOf content may_leave clock during key unread unwritten failed end disk disk old old)
+      each (Refused refused) h = tt
+      each (Keyed key) (inr is) = absurd (cc)
+      each (Keyed key) (inl (inl is)) = record {
+        says = subst (LeaseSays (content disk)) (sym is) tt;
+        formatted = λ done. absurd (subst IsFormatted is done);
+        moments = formats_same only disk (identifier_of key.seed) (levels_of key.height);
+        writes = record { whole = λ done. absurd (let both : status.ReadFault ≡ status.Done = sym is ∙ done in cc); part = took_nothing old (lease_text key) };
+        complete = elim (content disk) as (λ o. IfSome o (λ file. (unread → ⊥) → (unwritten → ⊥) → (failed → ⊥) → IsOrMemory (lease_end file) end)) [
+          | None ↦ tt
+          | Some file ↦ λ read put sync. absurd (read (rose is))
+        ];
+      }
+      each (Keyed key) (inl (inr is)) = record {
+        says = subst (LeaseSays (content disk)) (sym is) tt;
+        formatted = λ done. absurd (subst IsFormatted is done);
+        moments = formats_same only disk (identifier_of key.seed) (levels_of key.height);
+        writes = record { whole = λ done. absurd (let both : status.Memory ≡ status.Done = sym is ∙ done in cc); part = took_nothing old (lease_text key) };
+        complete = elim (content disk) as (λ o. IfSome o (λ file. (unread → ⊥) → (unwritten → ⊥) → (failed → ⊥) → IsOrMemory (lease_end file) end)) [
+          | None ↦ tt
+          | Some file ↦ λ read put sync. inr is
+        ];
+      }
+
+-- ## What is wanted
+
+-- what the topology's text says of a lease is what the topology says
+same_asked : (told : List ℕ) (topo : Topology) (name : List ℕ) → topology_of told ≡ Ok topo → asked_of told name ≡ asked_in topo name
+same_asked told topo name given = ap (λ r. asked_over r name) given
+
+pub wanted_told : (t : Option (List ℕ)) (topo : Topology) (name : List ℕ) (r : Result Wanted Status) → IfSome t (λ told. topology_of told ≡ Ok topo) → IfOk r (IsWanted (asked_in topo name))
+    → IfOk r (λ w. IfSome t (λ told. IsWanted (asked_of told name) w))
+wanted_told t topo name (Err end) given wanted = tt
+wanted_told None topo name (Ok w) given wanted = tt
+wanted_told (Some told) topo name (Ok w) given wanted = subst (λ a. IsWanted a w) (sym (same_asked told topo name given)) wanted
+
+pub ended_told : (t : Option (List ℕ)) (topo : Topology) (name : List ℕ) (r : Result Wanted Status) → IfSome t (λ told. topology_of told ≡ Ok topo) → IfErr r (IsEarly (refusal_in (asked_in topo name)))
+    → IfErr r (λ end. IfSome t (λ told. IsEarly (refusal_in (asked_of told name)) end))
+ended_told t topo name (Ok w) given ended = tt
+ended_told None topo name (Err end) given ended = tt
+ended_told (Some told) topo name (Err end) given ended = subst (λ a. IsEarly (refusal_in a) end) (sym (same_asked told topo name given)) ended
+
+-- a refused topology refuses each lease
+refused_over : (r : Result Topology TopoEnd) (name : List ℕ) (end : Status) → refusal_over r ≡ Some end → refusal_in (asked_over r name) ≡ Some end
+refused_over (Ok topo) name end is = absurd (cc)
+refused_over (Err (topo_end.Line line f)) name end is = is
+refused_over (Err topo_end.Memory) name end is = is
+
+pub refused_told : (t : Option (List ℕ)) (name : List ℕ) (end : Status) → IfSome t (λ told. IsEarly (refusal_of told) end) → IfSome t (λ told. IsEarly (refusal_in (asked_of told name)) end)
+refused_told None name end h = tt
+refused_told (Some told) name end (inl unread) = inl unread
+refused_told (Some told) name end (inr is) = inr (refused_over (topology_of told) name end is)
+
+-- a wanted lease is refused by nothing
+unrefused : (asked : Asked) (w : Wanted) → IsWanted asked w → refusal_in asked ≡ None
+unrefused (Refused end) w wanted = absurd wanted
+unrefused (Keyed key) w wanted = refl
+
+pub wanted_passes : (t : Option (List ℕ)) (asked : List ℕ → Asked) (w : Wanted) → IfSome t (λ told. IsWanted (asked told) w) → IfSome t (λ told. refusal_in (asked told) ≡ None)
+wanted_passes None asked w wanted = tt
+wanted_passes (Some told) asked w wanted = unrefused (asked told) w wanted
+
+-- ## Kinds of answers
+
+-- an answer before the disk is touched belongs to a lease, and neither writes nor meets the disk
+pub record IsEarlyKind (end : Status) (leased : Leased) : Type 0 where
+  pub belongs : (kind_of end).answers (Some (Lease leased)) ≡ true
+  pub core : (kind_of end).gives_core (Some (Lease leased)) ≡ false
+
+pub early_kind : (end : Status) (leased : Leased) → IsBeforeDisk end → IsEarlyKind end leased
+early_kind status.ReadFault leased h = record { belongs = refl; core = refl }
+early_kind status.Memory leased h = record { belongs = refl; core = refl }
+early_kind (status.Topology line f) leased h = record { belongs = refl; core = refl }
+early_kind (status.Lease fault.Unknown) leased h = record { belongs = refl; core = refl }
+early_kind (status.Lease fault.Keyless) leased h = record { belongs = refl; core = refl }
+early_kind (status.Lease (fault.Already id height)) leased h = absurd h
+early_kind status.Done leased h = absurd h
+early_kind status.Usage leased h = absurd h
+early_kind status.WriteFault leased h = absurd h
+early_kind (status.Schedule line f) leased h = absurd h
+early_kind status.DiskFault leased h = absurd h
+early_kind status.Unbuilt leased h = absurd h
+
+pub opening_is_early : (end : Status) → IsOpeningEnd end → IsBeforeDisk end
+opening_is_early status.ReadFault h = tt
+opening_is_early (status.Topology line f) h = tt
+opening_is_early status.Memory h = tt
+opening_is_early status.Done h = absurd h
+opening_is_early status.Usage h = absurd h
+opening_is_early status.WriteFault h = absurd h
+opening_is_early (status.Schedule line f) h = absurd h
+opening_is_early status.DiskFault h = absurd h
+opening_is_early (status.Lease f) h = absurd h
+opening_is_early status.Unbuilt h = absurd h
+
+-- an answer behind the disk refuses nothing, meets the disk, and writes only where the file was formatted
+pub record IsLateKind (end : Status) (leased : Leased) : Type 0 where
+  pub passes : (kind_of end).refuses ≡ false
+  pub core : (kind_of end).gives_core (Some (Lease leased)) ≡ false
+  pub meets : (kind_of end).meets_disk (Some (Lease leased)) ≡ true
+  pub writes : (kind_of end).writes (Some (Lease leased)) ≡ false → IsFormatted end → ⊥
+
+pub late_kind : (end : Status) (leased : Leased) → (kind_of end).answers (Some (Lease leased)) ≡ true → (IsBeforeDisk end → ⊥) → IsLateKind end leased
+late_kind status.Done leased belongs late = record { passes = refl; core = refl; meets = refl; writes = λ no done. cc }
+late_kind status.WriteFault leased belongs late = record { passes = refl; core = refl; meets = refl; writes = λ no done. cc }
+late_kind status.DiskFault leased belongs late = record { passes = refl; core = refl; meets = refl; writes = λ no done. done }
+late_kind (status.Lease (fault.Already id height)) leased belongs late = record { passes = refl; core = refl; meets = refl; writes = λ no done. done }
+late_kind (status.Lease fault.Unknown) leased belongs late = absurd (late tt)
+late_kind (status.Lease fault.Keyless) leased belongs late = absurd (late tt)
+late_kind status.ReadFault leased belongs late = absurd (late tt)
+late_kind status.Memory leased belongs late = absurd (late tt)
+late_kind (status.Topology line f) leased belongs late = absurd (late tt)
+late_kind status.Usage leased belongs late = absurd (cc)
+late_kind (status.Schedule line f) leased belongs late = absurd (cc)
+late_kind status.Unbuilt leased belongs late = absurd (cc)
+
+-- an early end is no fault of writing, and none of the disk
+pub no_fault : (end fault : Status) (count : ℕ) → (IsBeforeDisk fault → ⊥) → IsBeforeDisk end → HasCause (end ≡ fault) count count
+no_fault end fault count late early = record { never_falls = omega arith; rose = λ is. absurd (late (subst IsBeforeDisk is early)); stays = λ fine. refl }

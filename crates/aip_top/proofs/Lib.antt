@@ -1,4 +1,1 @@
-pub mod Whole
-pub mod Turns
-pub mod Runs
 pub mod Leases

@@ -1,5 +1,5 @@
 -- The addresses of a topology, as text.
-use Rattle.std.specs.Prelude.{ℕ, List, [], ◌∷◌, ◌++◌, codes, flat_map, Result, Ok, Err}
+use Rattle.std.specs.Prelude.{◌≡◌, ℕ, None, List, [], ◌∷◌, ◌++◌, codes, flat_map, Result, Ok, Err}
 use Rattle.hex.specs.Hex.{encode_lower}
 use Rattle.aip_addr.specs.declared.ids.Address.{Address}
 use Rattle.aip_topo.specs.declared.topology.Domain.{Domain}
@@ -11,6 +11,7 @@ use Rattle.aip_topo.specs.declared.faults.TopoEnd.{TopoEnd}
 use Rattle.aip_topo.specs.declared.faults.TopoEnd.TheVariants as topo_end
 use Rattle.aip_topo.specs.Reading.{topology_of}
 use Rattle.aip_rules.specs.Nodes.{host_address}
+use Rattle.aip_top.specs.Judged.{refusal_of}
 use Rattle.aip_top.specs.declared.status.Status.{Status}
 use Rattle.aip_top.specs.declared.status.Status.TheVariants as status
 
@@ -55,3 +56,9 @@ address_end_over (Err topo_end.Memory) = status.Memory
 -- how it ends for a topology text
 abbrev pub address_end : List ℕ → Status
 address_end text = address_end_over (topology_of text)
+
+-- the bytes are what is written for a topology text that isn't refused
+pub record IsWritten (text bytes : List ℕ) : Type 0 where
+  pub written : bytes ≡ addresses_in text
+  pub ends : address_end text ≡ status.Done
+  pub sound : refusal_of text ≡ None

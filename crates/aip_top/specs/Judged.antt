@@ -1,39 +1,68 @@
 -- What a topology text by itself says of the end of a command.
-use Rattle.std.specs.Prelude.{◌≡◌, ℕ, List, ◌⊎◌, Option, Some, None, Result, Ok, Err, if◌then◌else◌}
+use Rattle.std.specs.Prelude.{◌≡◌, ◌⊎◌, ℕ, ⊤, true, List, Option, Some, None, IfSome, option_map, Result, Ok, Err}
 use Rattle.aip_topo.specs.declared.topology.Topology.{Topology}
 use Rattle.aip_topo.specs.declared.faults.TopoEnd.{TopoEnd}
 use Rattle.aip_topo.specs.declared.faults.TopoEnd.TheVariants as topo_end
 use Rattle.aip_topo.specs.Reading.{topology_of}
-use Rattle.aip_rules.specs.Texts.{ran, end_of, output_of, text_of_run, is_built_topology}
+use Rattle.aip_sim.specs.Judged.{end_by as run_end_by}
 use Rattle.aip_top.specs.Words.{Command, Run, Address, Lease}
-use Rattle.aip_top.specs.Leasing.{refusal_in, asked_over}
+use Rattle.aip_top.specs.Leasing.{refusal_in, asked_of}
+use Rattle.aip_top.specs.Statuses.{kind_of, status_of_run}
 use Rattle.aip_top.specs.declared.status.Status.{Status}
 use Rattle.aip_top.specs.declared.status.Status.TheVariants as status
 
 -- the status that refuses what a topology text gives: a refused line
-abbrev pub refusal_of : Result Topology TopoEnd → Option Status
-refusal_of (Ok topo) = None
-refusal_of (Err (topo_end.Line line f)) = Some (status.Topology line f)
-refusal_of (Err topo_end.Memory) = Some status.Memory
+abbrev pub refusal_over : Result Topology TopoEnd → Option Status
+refusal_over (Ok topo) = None
+refusal_over (Err (topo_end.Line line f)) = Some (status.Topology line f)
+refusal_over (Err topo_end.Memory) = Some status.Memory
 
--- the status that ends every run over what a topology text gives: a refused line, or a topology that isn't built
-abbrev pub topology_end : Result Topology TopoEnd → Option Status
-topology_end (Ok topo) = if is_built_topology topo then None else Some status.Unbuilt
-topology_end (Err (topo_end.Line line f)) = Some (status.Topology line f)
-topology_end (Err topo_end.Memory) = Some status.Unbuilt
+-- the status that refuses a topology text
+abbrev pub refusal_of : List ℕ → Option Status
+refusal_of text = refusal_over (topology_of text)
 
 -- the status by which the topology text ends the command, whatever else there is
-abbrev pub end_by : Command → Result Topology TopoEnd → Option Status
-end_by (Run files) told = topology_end told
-end_by (Address topology) told = refusal_of told
-end_by (Lease leased) told = refusal_in (asked_over told leased.domain)
+abbrev pub end_by : Command → List ℕ → Option Status
+end_by (Run files) text = option_map status_of_run (run_end_by text)
+end_by (Address topology) text = refusal_of text
+end_by (Lease leased) text = refusal_in (asked_of text leased.domain)
 
--- a sound topology that runs are built over, and the text gives it: a run writes and ends as its schedule says
-pub record Gives (text : List ℕ) (topo : Topology) : Type 0 where
-  pub built : topology_end (topology_of text) ≡ None
-  pub ends : (schedule : List ℕ) → end_of text schedule ≡ (ran topo schedule).ending
-  pub writes : (schedule : List ℕ) → output_of text schedule ≡ text_of_run (ran topo schedule)
+-- the file couldn't be read, or there was no memory
+abbrev pub IsUnread : Status → Type 0
+IsUnread end = (end ≡ status.ReadFault) ⊎ (end ≡ status.Memory)
 
--- want of memory, or the status by which the topology text ends the command
-abbrev pub IsJudged : Option Status → Status → Type 0
-IsJudged expected end = (end ≡ status.Memory) ⊎ (expected ≡ Some end)
+-- the file couldn't be read, or there was no memory, or the text ends the command so
+abbrev pub IsEarly : Option Status → Status → Type 0
+IsEarly expected end = IsUnread end ⊎ (expected ≡ Some end)
+
+-- the answer is the one that is expected, or want of memory
+abbrev pub IsOrMemory : Status → Status → Type 0
+IsOrMemory expected end = (end ≡ expected) ⊎ (end ≡ status.Memory)
+
+-- the answer is the one that is expected, or want of memory, or a fault of reading that has its cause
+abbrev pub IsOrUnread : Status → Type 0 → Status → Type 0
+IsOrUnread expected rose end = (end ≡ expected) ⊎ ((end ≡ status.Memory) ⊎ ((end ≡ status.ReadFault) × rose))
+
+-- A topology text that by itself ends the command ends it so, unless its file couldn't be read or there was no memory, and
+-- all else stays as it was. Only such a text is refused.
+pub record Judges (expected : Option Status) (unread stays : Type 0) (end : Status) : Type 0 where
+  pub comes : IfSome expected (λ answer. stays × IsOrUnread answer unread end)
+  pub only : (kind_of end).refuses ≡ true → expected ≡ Some end
+
+-- what a topology text gives a command: the topology, or an early end
+abbrev pub IsTopologyOf : List ℕ → Result Topology Status → Type 0
+IsTopologyOf text (Ok topo) = topology_of text ≡ Ok topo
+IsTopologyOf text (Err end) = IsEarly (refusal_of text) end
+
+-- the status comes before a command has its topology: its file couldn't be read, it is refused, or there was no memory
+abbrev pub IsOpeningEnd : Status → Type 0
+IsOpeningEnd status.ReadFault = ⊤
+IsOpeningEnd (status.Topology line f) = ⊤
+IsOpeningEnd status.Memory = ⊤
+IsOpeningEnd status.Done = ⊥
+IsOpeningEnd status.Usage = ⊥
+IsOpeningEnd status.WriteFault = ⊥
+IsOpeningEnd (status.Schedule line f) = ⊥
+IsOpeningEnd status.DiskFault = ⊥
+IsOpeningEnd (status.Lease f) = ⊥
+IsOpeningEnd status.Unbuilt = ⊥

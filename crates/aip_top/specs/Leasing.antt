@@ -36,10 +36,14 @@ abbrev pub asked_of_domain : Option Domain → Asked
 asked_of_domain None = Refused (status.Lease fault.Unknown)
 asked_of_domain (Some domain) = asked_of_key domain.key
 
+-- a lease for the domain of a name in a topology
+abbrev pub asked_in : Topology → List ℕ → Asked
+asked_in t name = asked_of_domain (find (λ (domain : Domain). bytes_eq domain.name name) t.domains)
+
 -- a lease for the domain of a name, by what a topology text gives: a refused line, an unknown domain, a domain without a
 -- key, or else its key
 abbrev pub asked_over : Result Topology TopoEnd → List ℕ → Asked
-asked_over (Ok t) name = asked_of_domain (find (λ (domain : Domain). bytes_eq domain.name name) t.domains)
+asked_over (Ok t) name = asked_in t name
 asked_over (Err (topo_end.Line line f)) name = Refused (status.Topology line f)
 asked_over (Err topo_end.Memory) name = Refused status.Memory
 
@@ -87,6 +91,21 @@ LeaseSays told (status.Lease fault.Unknown) = ⊥
 LeaseSays told (status.Lease fault.Keyless) = ⊥
 LeaseSays told status.Unbuilt = ⊥
 
+-- the status comes before a lease touches the disk: a refusal, a fault of reading, or want of memory
+abbrev pub IsBeforeDisk : Status → Type 0
+IsBeforeDisk status.ReadFault = ⊤
+IsBeforeDisk status.Memory = ⊤
+IsBeforeDisk (status.Topology line f) = ⊤
+IsBeforeDisk (status.Lease fault.Unknown) = ⊤
+IsBeforeDisk (status.Lease fault.Keyless) = ⊤
+IsBeforeDisk (status.Lease (fault.Already id height)) = ⊥
+IsBeforeDisk status.Done = ⊥
+IsBeforeDisk status.Usage = ⊥
+IsBeforeDisk status.WriteFault = ⊥
+IsBeforeDisk (status.Schedule line f) = ⊥
+IsBeforeDisk status.DiskFault = ⊥
+IsBeforeDisk status.Unbuilt = ⊥
+
 -- the file was formatted: all was done, or but the writing failed
 abbrev pub IsFormatted : Status → Type 0
 IsFormatted status.Done = ⊤
@@ -105,12 +124,15 @@ pub record HasFresh {D : Type 0} (content : D → Option (List ℕ)) (may_leave 
   pub firm : (image : List ℕ) → may_leave new image → content new ≡ Some image
 
 -- What a lease leaves of a formatted file, whatever the answer: where every image at the start has an open gate, each
--- image of each moment is one of those, so no leaf that is gone comes back and every byte stays. The clock rises by at
+-- image of each moment is one of those, so no leaf that is gone comes back and every byte stays. Whatever was there, no image
+-- of a moment is longer than the longest at the start, or than the file of a key of height 10, and the clock rises by at
 -- most 6.
 pub record KeepsOpen {D : Type 0} (may_leave : D → List ℕ → Type 0) (clock : D → ℕ) (during : D → ℕ → List ℕ → Type 0) (old new : D) : Type 0 where
   pub images : ((image : List ℕ) → may_leave old image → IsOpen image) → AtEachMoment clock during old new (may_leave old)
   pub gone : ((image : List ℕ) → may_leave old image → IsOpen image) → KeepsGone (may_leave old) (during new (clock old))
   pub bytes : ((image : List ℕ) → may_leave old image → IsOpen image) → (at : ℕ) → KeepsByte at (may_leave old) (during new (clock old))
+  pub lengths : (longest : ℕ) → ((image : List ℕ) → may_leave old image → length image ≤ longest)
+      → AtEachMoment clock during old new (λ image. length image ≤ max longest (file_size 10))
   pub ticks : clock new ≤ clock old + 6
 
 -- What a lease of a key does at each moment, whatever the answer: no image is longer than the longest at the start, or

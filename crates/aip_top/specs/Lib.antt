@@ -1,9 +1,9 @@
-pub mod Statuses
-pub mod Outcomes
 pub mod Words
-pub mod Written
+pub mod Statuses
 pub mod Named
-pub mod Leasing
 pub mod Judged
+pub mod Written
 pub mod Addresses
+pub mod Leasing
+pub mod Commands
 pub mod Wanted

@@ -1,7 +1,12 @@
 -- What a status says of the end of a command.
-use Rattle.std.specs.Prelude.{ℕ, ⊤, Bool, true, false}
+use Rattle.std.specs.Prelude.{ℕ, Bool, true, false, Option, Some, None, is_some}
 use Rattle.aip_rules.specs.Texts.{Ending}
-use Rattle.aip_rules.specs.Texts as texts
+use Rattle.aip_sim.specs.Ends.{run_end_of}
+use Rattle.aip_sim.specs.declared.ends.RunEnd.{RunEnd}
+use Rattle.aip_sim.specs.declared.ends.RunEnd.TheVariants as run_end
+use Rattle.aip_sim.specs.declared.topologies.TopologyEnd.{TopologyEnd}
+use Rattle.aip_sim.specs.declared.topologies.TopologyEnd.TheVariants as topology_end
+use Rattle.aip_top.specs.Words.{Command, is_run, is_lease, is_no_command, is_any_command, is_never}
 use Rattle.aip_top.specs.declared.status.Status.{Status}
 use Rattle.aip_top.specs.declared.status.Status.TheVariants as status
 use Rattle.aip_top.specs.declared.status.LeaseFault.TheVariants as fault
@@ -19,57 +24,48 @@ exit_code_of status.Memory = 9
 exit_code_of (status.Lease f) = 10
 exit_code_of status.Unbuilt = 12
 
+-- the status of an answer of a run
+abbrev pub status_of_run : RunEnd → Status
+status_of_run run_end.Done = status.Done
+status_of_run run_end.ReadFault = status.ReadFault
+status_of_run run_end.WriteFault = status.WriteFault
+status_of_run (run_end.Topology line f) = status.Topology line f
+status_of_run (run_end.Schedule line f) = status.Schedule line f
+status_of_run run_end.Unbuilt = status.Unbuilt
+status_of_run run_end.Memory = status.Memory
+
 -- the status that tells how a run ends
 abbrev pub status_of : Ending → Status
-status_of texts.Done = status.Done
-status_of (texts.Topology_refused line f) = status.Topology line f
-status_of (texts.Schedule_refused line f) = status.Schedule line f
-status_of texts.Unbuilt = status.Unbuilt
+status_of ending = status_of_run (run_end_of ending)
 
--- the status is a fault of reading or writing, or want of memory, which say nothing of the end of the command
-abbrev pub IsCutShort : Status → Type 0
-IsCutShort status.ReadFault = ⊤
-IsCutShort status.WriteFault = ⊤
-IsCutShort status.Memory = ⊤
-IsCutShort status.Done = ⊥
-IsCutShort status.Usage = ⊥
-IsCutShort (status.Topology line f) = ⊥
-IsCutShort (status.Schedule line f) = ⊥
-IsCutShort status.DiskFault = ⊥
-IsCutShort (status.Lease f) = ⊥
-IsCutShort status.Unbuilt = ⊥
+-- the status where no topology could be read
+abbrev pub status_without : TopologyEnd → Status
+status_without topology_end.ReadFault = status.ReadFault
+status_without (topology_end.Refused line f) = status.Topology line f
+status_without topology_end.Memory = status.Memory
 
--- the status refuses a topology, or a lease by what the topology says
-abbrev pub IsRefusal : Status → Type 0
-IsRefusal (status.Topology line f) = ⊤
-IsRefusal (status.Lease fault.Unknown) = ⊤
-IsRefusal (status.Lease fault.Keyless) = ⊤
-IsRefusal (status.Lease (fault.Already id height)) = ⊥
-IsRefusal status.Done = ⊥
-IsRefusal status.Usage = ⊥
-IsRefusal status.ReadFault = ⊥
-IsRefusal status.WriteFault = ⊥
-IsRefusal (status.Schedule line f) = ⊥
-IsRefusal status.DiskFault = ⊥
-IsRefusal status.Memory = ⊥
-IsRefusal status.Unbuilt = ⊥
+-- What kind of answer a status is, whatever is told: the commands that it answers; those of them where bytes may have been
+-- written by then, where the disk may have been met, and where a core comes back; whether it refuses a command by what the
+-- topology says; and whether it is a fault of reading or writing or want of memory, which say nothing of the command's end.
+pub record Kind : Type 0 where
+  pub answers : Option Command → Bool
+  pub writes : Option Command → Bool
+  pub meets_disk : Option Command → Bool
+  pub gives_core : Option Command → Bool
+  pub refuses : Bool
+  pub cuts_short : Bool
 
--- the status comes before a lease touches the disk: a refusal, a fault of reading, or want of memory
-abbrev pub IsEarly : Status → Type 0
-IsEarly status.ReadFault = ⊤
-IsEarly status.Memory = ⊤
-IsEarly (status.Topology line f) = ⊤
-IsEarly (status.Lease fault.Unknown) = ⊤
-IsEarly (status.Lease fault.Keyless) = ⊤
-IsEarly (status.Lease (fault.Already id height)) = ⊥
-IsEarly status.Done = ⊥
-IsEarly status.Usage = ⊥
-IsEarly status.WriteFault = ⊥
-IsEarly (status.Schedule line f) = ⊥
-IsEarly status.DiskFault = ⊥
-IsEarly status.Unbuilt = ⊥
-
--- the disk failed
-abbrev pub is_disk_fault : Status → Bool
-is_disk_fault status.DiskFault = true
-is_disk_fault _ = false
+-- the kind of each status
+abbrev pub kind_of : Status → Kind
+kind_of status.Done = record { answers = is_any_command; writes = is_any_command; meets_disk = is_lease; gives_core = is_run; refuses = false; cuts_short = false }
+kind_of status.Usage = record { answers = is_no_command; writes = is_never; meets_disk = is_never; gives_core = is_never; refuses = false; cuts_short = false }
+kind_of status.ReadFault = record { answers = is_any_command; writes = is_run; meets_disk = is_never; gives_core = is_never; refuses = false; cuts_short = true }
+kind_of status.WriteFault = record { answers = is_any_command; writes = is_any_command; meets_disk = is_lease; gives_core = is_never; refuses = false; cuts_short = true }
+kind_of (status.Topology line f) = record { answers = is_any_command; writes = is_never; meets_disk = is_never; gives_core = is_never; refuses = true; cuts_short = false }
+kind_of (status.Schedule line f) = record { answers = is_run; writes = is_run; meets_disk = is_never; gives_core = is_run; refuses = false; cuts_short = false }
+kind_of status.DiskFault = record { answers = is_lease; writes = is_never; meets_disk = is_lease; gives_core = is_never; refuses = false; cuts_short = false }
+kind_of (status.Lease fault.Unknown) = record { answers = is_lease; writes = is_never; meets_disk = is_never; gives_core = is_never; refuses = true; cuts_short = false }
+kind_of (status.Lease fault.Keyless) = record { answers = is_lease; writes = is_never; meets_disk = is_never; gives_core = is_never; refuses = true; cuts_short = false }
+kind_of (status.Lease (fault.Already id height)) = record { answers = is_lease; writes = is_never; meets_disk = is_lease; gives_core = is_never; refuses = false; cuts_short = false }
+kind_of status.Memory = record { answers = is_any_command; writes = is_run; meets_disk = is_never; gives_core = is_never; refuses = false; cuts_short = true }
+kind_of status.Unbuilt = record { answers = is_run; writes = is_run; meets_disk = is_never; gives_core = is_never; refuses = false; cuts_short = false }

@@ -3,7 +3,7 @@ use Rattle.std.specs.Prelude.{◌≡◌}
 use Rattle.lms_core.specs.Tree.{Key, identifier_of}
 use Rattle.lms_core.specs.Parameters.{levels_of}
 use Rattle.aip_top.specs.Leasing.{Asked, Refused, Keyed, lease_text}
-use Rattle.aip_top.specs.declared.leasing.Wanted.{Wanted}
+use Rattle.aip_top.specs.declared.lease.Wanted.{Wanted}
 
 -- the identifier and the height of the key, and its line
 pub record Wants (k : Key) (wanted : Wanted) : Type 0 where

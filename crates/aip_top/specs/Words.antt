@@ -1,5 +1,5 @@
 -- The words of a command line.
-use Rattle.std.specs.Prelude.{ℕ, ◌⊎◌, ⊤, List, [], ◌∷◌, codes, map, string_bytes, Option, Some, None, IfSome, if◌then◌else◌}
+use Rattle.std.specs.Prelude.{◌≡◌, ℕ, ◌⊎◌, ⊤, Bool, true, false, List, [], ◌∷◌, codes, map, string_bytes, Option, Some, None, IfSome, if◌then◌else◌}
 use Rattle.std.proofs.Common.{String, Global}
 use Rattle.std.specs.Str.{bytes_eq}
 use Rattle.aip_addr.specs.Naming.{is_name}
@@ -78,15 +78,33 @@ OfLease (Some (Run files)) holds = ⊤
 OfLease (Some (Address topology)) holds = ⊤
 OfLease (Some (Lease leased)) holds = holds leased
 
--- the command is a lease
-abbrev pub IsLease : Option Command → Type 0
-IsLease None = ⊥
-IsLease (Some (Run files)) = ⊥
-IsLease (Some (Address topology)) = ⊥
-IsLease (Some (Lease leased)) = ⊤
+-- the words spell a run, a lease, any command, or none; and a test that nothing meets
+abbrev pub is_run : Option Command → Bool
+is_run None = false
+is_run (Some (Run files)) = true
+is_run (Some (Address topology)) = false
+is_run (Some (Lease leased)) = false
 
--- it holds of one of the files that the command names
-abbrev pub OfAFile : (List ℕ → Type 0) → Command → Type 0
-OfAFile holds (Run files) = holds files.topology ⊎ holds files.schedule
-OfAFile holds (Address topology) = holds topology
-OfAFile holds (Lease leased) = holds leased.topology
+abbrev pub is_lease : Option Command → Bool
+is_lease None = false
+is_lease (Some (Run files)) = false
+is_lease (Some (Address topology)) = false
+is_lease (Some (Lease leased)) = true
+
+abbrev pub is_any_command : Option Command → Bool
+is_any_command None = false
+is_any_command (Some command) = true
+
+abbrev pub is_no_command : Option Command → Bool
+is_no_command None = true
+is_no_command (Some command) = false
+
+abbrev pub is_never : Option Command → Bool
+is_never command = false
+
+-- the words name this file
+abbrev pub IsNamed : Option Command → List ℕ → Type 0
+IsNamed None name = ⊥
+IsNamed (Some (Run files)) name = (name ≡ files.topology) ⊎ (name ≡ files.schedule)
+IsNamed (Some (Address topology)) name = name ≡ topology
+IsNamed (Some (Lease leased)) name = name ≡ leased.topology

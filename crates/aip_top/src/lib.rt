@@ -1,15 +1,20 @@
-//! The commands of the program, over a shelf of texts and a sink.
+//! The commands of the program, over a shelf of texts, a sink and a disk.
 //!
 //! `aip` takes the words of a command line and answers a status. What it reads, what it writes and why it answers as it
 //! does are clauses of that one call.
+//!
+//! ```text
+//! let (status, disk, core) = aip(alloc, &words, &mut shelf, &mut out, disk);
+//! ```
 #![tactic(auto)]
 
-mod addresses;
+mod address;
 mod command;
-mod leasing;
-mod schedule;
+mod lease;
+mod run;
 mod status;
 mod top;
+mod topology;
 mod writing;
 
 pub use aip_addr::Memory;

@@ -1,7 +1,9 @@
 ghost use Rattle.std.specs.Prelude.{◌≡◌};
 ghost use Rattle.aip_top.specs.Statuses.{exit_code_of};
 
+use aip_addr::Memory;
 use aip_rules::StepFault;
+use aip_sim::{RunEnd, TopologyEnd};
 use aip_topo::TopoFault;
 
 /// Why a lease is refused.
@@ -72,6 +74,51 @@ impl Status {
             Status::Memory => 9,
             Status::Lease(_) => 10,
             Status::Unbuilt => 12,
+        }
+    }
+}
+
+impl From<Memory> for Status {
+    ghost use Rattle.std.specs.Prelude.{◌≡◌};
+    ghost use Rattle.aip_top.specs.declared.status.Status.TheVariants.{Memory};
+
+    ghost from_gives = { λ _ status. status ≡ Memory };
+
+    fn from(_: Memory) -> Self {
+        Status::Memory
+    }
+}
+
+impl From<TopologyEnd> for Status {
+    ghost use Rattle.std.specs.Prelude.{◌≡◌};
+    ghost use Rattle.aip_top.specs.Statuses.{status_without};
+
+    ghost from_gives = { λ end status. status ≡ status_without end };
+
+    fn from(end: TopologyEnd) -> Self {
+        match end {
+            TopologyEnd::ReadFault => Status::ReadFault,
+            TopologyEnd::Refused { line, fault } => Status::Topology { line, fault },
+            TopologyEnd::Memory => Status::Memory,
+        }
+    }
+}
+
+impl From<RunEnd> for Status {
+    ghost use Rattle.std.specs.Prelude.{◌≡◌};
+    ghost use Rattle.aip_top.specs.Statuses.{status_of_run};
+
+    ghost from_gives = { λ end status. status ≡ status_of_run end };
+
+    fn from(end: RunEnd) -> Self {
+        match end {
+            RunEnd::Done => Status::Done,
+            RunEnd::ReadFault => Status::ReadFault,
+            RunEnd::WriteFault => Status::WriteFault,
+            RunEnd::Topology { line, fault } => Status::Topology { line, fault },
+            RunEnd::Schedule { line, fault } => Status::Schedule { line, fault },
+            RunEnd::Unbuilt => Status::Unbuilt,
+            RunEnd::Memory => Status::Memory,
         }
     }
 }

@@ -17,7 +17,9 @@ use Rattle.aip_addr.specs.Ids.{id_bytes, id_of_key}
 use Rattle.aip_addr.specs.declared.ids.Id.{Id}
 use Rattle.lms_core.specs.Tree.{identifier_of, key_from, public_key_of}
 use Rattle.lms_core.specs.Tree as lms
-use Rattle.aip_topo.specs.Sound.{AreDistinct, IsIdOf, IsSized, domain_identifiers, has_text, host_identifiers, identifiers_in, identifiers_of}
+use Rattle.aip_topo.specs.Canonical.{ad_origin, eid_origin}
+use Rattle.aip_topo.specs.Lines.{IsAdOrigin, IsEidOrigin, IsSized}
+use Rattle.aip_topo.specs.Sound.{AreDistinct, IsIdOf, domain_identifiers, has_text, host_identifiers, identifiers_in, identifiers_of}
 use Rattle.aip_topo.specs.Steps.{has_interface, has_version_0, id_from, is_domain_identified, is_host_identified, is_identified, is_key_taken, is_no_ad, is_no_eid, key_of}
 use Rattle.aip_topo.specs.declared.lines.Origin.{Origin}
 use Rattle.aip_topo.specs.declared.lines.Origin.TheVariants as origin
@@ -89,9 +91,17 @@ id_interface version hash interface long =
     ap at (sym front) ∙ get_or-append_seam (take 18 hash) interface [] 0
 
 -- an id or a seed that has its size
-abbrev pub IsOrigin : Origin → Type 0
+abbrev IsOrigin : Origin → Type 0
 IsOrigin (origin.Given id) = IsSized 20 id.bytes
 IsOrigin (origin.Seed _ _ _ seed) = IsSized 32 seed
+
+pub ad_sized : (from : Origin) → IsAdOrigin from → IsOrigin from
+ad_sized (origin.Given id) h = h
+ad_sized (origin.Seed _ _ _ seed) h = h.1
+
+pub eid_sized : (from : Origin) → IsEidOrigin from → IsOrigin from
+eid_sized (origin.Given id) h = h
+eid_sized (origin.Seed _ _ _ seed) h = h.1
 
 byte_small : (n : ℕ) → nat_lt 255 n ≡ false → n < 256
 byte_small n h = grind (arith, nat_tests)
@@ -132,16 +142,6 @@ ad_may (origin.Seed width height interface seed) h = no_interface_small interfac
 
 -- ## Ids and how lines give them
 
--- how a host's line gives an id
-abbrev pub eid_origin : Key → Id → Origin
-eid_origin key.Given id = origin.Given id
-eid_origin (key.Made k) id = origin.Seed k.width k.height (slice_index id.bytes 19) k.seed
-
--- how a domain's line gives one
-abbrev pub ad_origin : Key → Id → Origin
-ad_origin key.Given id = origin.Given id
-ad_origin (key.Made k) id = origin.Seed k.width k.height 0 k.seed
-
 pub eid_key_again : (k : Key) (id : Id) → key_of (eid_origin k id) ≡ k
 eid_key_again key.Given id = refl
 eid_key_again (key.Made k) id = refl
@@ -163,6 +163,18 @@ ad_again (key.Made k) id h alone = ap (id_of_key (public_key_of k)) (no_interfac
 
 byte_ranged : (n : ℕ) → n < 256 → nat_lt 255 n ≡ false
 byte_ranged n h = grind (arith, nat_tests)
+
+-- how a line gives the id of a domain or a host of a sound topology
+pub ad_fits : (k : Key) (id : Id) → IsSized 20 id.bytes → IsIdOf k id → IsAdOrigin (ad_origin k id)
+ad_fits key.Given id size is = size
+ad_fits (key.Made k) id size is = (refl, is.0)
+
+pub eid_fits : (k : Key) (id : Id) → IsSized 20 id.bytes → IsIdOf k id → IsEidOrigin (eid_origin k id)
+eid_fits key.Given id size is = size
+eid_fits (key.Made k) id size is =
+    let wide : 256 < 10 ^ 15 = lit< tt in
+    let byte = size.0 19 in
+    (omega (arith, byte, wide), is.0)
 
 pub eid_ranged : (k : Key) (id : Id) → IsSized 20 id.bytes → has_version_0 id ≡ false → is_no_eid (eid_origin k id) ≡ false
 eid_ranged key.Given id size h = h

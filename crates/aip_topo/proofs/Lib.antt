@@ -1,9 +1,13 @@
-pub mod Judging
-pub mod Distinct
-pub mod Keys
-pub mod WellFormed
-pub mod Soundness
-pub mod Spelling
-pub mod Running
-pub mod Placing
-pub mod Canon
+mod Distinct
+mod Accepted
+mod LineLaws
+mod Placing
+mod Keys
+mod Shown
+mod Running
+mod Meeting
+mod Soundness
+mod CanonNodes
+mod Canon
+mod Decided
+mod Said

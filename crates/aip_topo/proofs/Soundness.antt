@@ -1,34 +1,32 @@
 -- Every topology that is read is sound.
-use Rattle.std.proofs.Common.{◌≡◌, ℕ, ◌+◌, ◌<◌, ◌≤◌, Bool, true, false, cond, ◌||◌, nat_lt, List, [], ◌∷◌, ◌++◌, length, map, take, Option, Some, None, Result, Ok, Err, IfOk, refl, sym, ap, subst, ◌∙◌, arith, length-append, append_assoc}
-use Rattle.std.specs.Prelude.{count_by, get_or, slice_get, position}
+use Rattle.std.proofs.Common.{◌≡◌, ℕ, ◌+◌, ◌<◌, ◌≤◌, Bool, true, false, cond, ◌||◌, List, [], ◌∷◌, ◌++◌, length, map, take, Option, Some, None, Result, Ok, Err, IfOk, refl, sym, ap, subst, ◌∙◌, arith, length-append, append_assoc}
+use Rattle.std.specs.Prelude.{count_by, get_or, slice_get}
 use Rattle.std.proofs.Common.{lit≤}
 use Rattle.std.proofs.Math.ListN.{get_or-append}
 use Rattle.std.specs.Str.{bytes_eq}
-use Rattle.std.specs.List.{list_any, AllByRecursion, position_or_len}
-use Rattle.std.specs.Option.{option_map, option_and_then}
-use Rattle.std.proofs.lemmas.Bool.{leb-false, ltb-true, or_from, or_parts}
+use Rattle.std.specs.List.{list_any, AllByRecursion}
+use Rattle.std.specs.Option.{option_map}
+use Rattle.std.proofs.lemmas.Bool.{or_from, or_parts}
 use Rattle.std.proofs.lemmas.List.{map-append}
 use Rattle.std.proofs.lemmas.List.Folds.{list_any-append}
 use Rattle.std.proofs.lemmas.List.Sums.{sum_by-append}
-use Rattle.std.proofs.lemmas.Option.{cond_some, get_or_from_slice_get, none-some, same_Some, slice_get-get_or, slice_get_within}
+use Rattle.std.proofs.lemmas.Option.{get_or_from_slice_get, none-some, same_Some, slice_get-get_or, slice_get_within}
 use Rattle.aip_addr.specs.declared.ids.Id.{Id}
 use Rattle.aip_text.specs.Lines.{lines_of, is_skipped, has_carriage_return}
 use Rattle.aip_topo.specs.Canonical.{values_of}
-use Rattle.aip_topo.specs.Lines.{line_of}
-use Rattle.aip_topo.specs.Reading.{at_line, empty_draft, finished, is_long, then_with, topology_of, with_lines, with_read, with_text}
+use Rattle.aip_topo.specs.LineReading.{line_in}
+use Rattle.aip_topo.specs.Lines.{IsLine}
+use Rattle.aip_topo.specs.Reading.{RefusedLine, at_line, empty_draft, finished, is_long, then_with, topology_of, with_lines, with_read, with_text}
 use Rattle.aip_topo.specs.Sound.{AreDistinct, IsDomain, IsInRange, IsPartOf, IsRouterOf, IsSound, has_text, host_key_ids, host_names, domain_identifiers, names_of}
-use Rattle.aip_topo.specs.Steps.{ad_at, domain_place, draft_with, entry_or_fault, has_ad, has_key_id, is_host, is_key_taken, is_link, is_named, is_out_of_range, is_twin, made, names_domain, names_host, names_router, router_place, with_entry, with_judged, with_line, with_setting}
+use Rattle.aip_topo.specs.Steps.{ad_at, entry_of, has_ad, has_key_id, is_host, is_key_taken, is_link, is_named, is_twin, names_domain, names_host, names_router, with_entry, with_line, with_setting}
 use Rattle.aip_topo.specs.declared.faults.TopoEnd.{TopoEnd}
 use Rattle.aip_topo.specs.declared.faults.TopoFault.{TopoFault}
 use Rattle.aip_topo.specs.declared.lines.Line.{Line}
-use Rattle.aip_topo.specs.declared.lines.Line.TheVariants as line
 use Rattle.aip_topo.specs.declared.lines.Setting.{Setting}
 use Rattle.aip_topo.specs.declared.lines.Setting.TheVariants as setting
 use Rattle.aip_topo.specs.declared.steps.Draft.{Draft}
-use Rattle.aip_topo.specs.declared.steps.Entry.{Entry}
-use Rattle.aip_topo.specs.declared.steps.Entry.TheVariants as entry
-use Rattle.aip_topo.specs.declared.steps.Found.{Found}
-use Rattle.aip_topo.specs.declared.steps.Found.TheVariants as found
+use Rattle.aip_topo.specs.declared.entries.Entry.{Entry}
+use Rattle.aip_topo.specs.declared.entries.Entry.TheVariants as entry
 use Rattle.aip_topo.specs.declared.topology.Domain.{Domain}
 use Rattle.aip_topo.specs.declared.topology.HostPart.{HostPart}
 use Rattle.aip_topo.specs.declared.topology.LinkPart.{LinkPart}
@@ -38,80 +36,17 @@ use Rattle.aip_topo.specs.declared.topology.Router.{Router}
 use Rattle.aip_topo.specs.declared.topology.Settings.{Settings}
 use Rattle.aip_topo.specs.declared.topology.Topology.{Topology}
 use Rattle.aip_topo.proofs.Distinct.{added, all_more, all_then, inserted}
-use Rattle.aip_topo.proofs.Judging.{IsAccepted, given_accepted, past}
-use Rattle.aip_topo.proofs.Keys.{ad_may, domain_more, host_identifiers-link, host_more, origin_alone, origin_id, origin_sized, origin_version}
-use Rattle.aip_topo.proofs.WellFormed.{IsLine, line_is}
+use Rattle.aip_topo.proofs.Accepted.{past, taken_accepted}
+use Rattle.aip_topo.proofs.Keys.{domain_more, host_identifiers-link, host_more}
+use Rattle.aip_topo.proofs.LineLaws.{line_found}
+use Rattle.aip_topo.proofs.Meeting.{IsNew, Stands, line_meets, named_any}
 
--- ## What an entry is, and what it isn't yet
-
--- an entry that may stand in the topology
-abbrev Stands : Topology → Entry → Type 0
-Stands t (entry.Set s value) = IsInRange (s, value)
-Stands t (entry.Domain domain) = IsDomain domain
-Stands t (entry.Router router) = IsRouterOf t.domains router
-Stands t (entry.Part p) = IsPartOf (length t.routers) p
-
--- it has a place and its name is new
-abbrev IsNew : Topology → Entry → Type 0
-IsNew t (entry.Set _ _) = Unit {0}
-IsNew t (entry.Domain domain) = (length t.domains < 64) × (is_named domain.name t ≡ false)
-IsNew t (entry.Router router) = (length t.routers < 256) × (is_named router.name t ≡ false)
-IsNew t (entry.Part (part.Host host)) = (count_by is_host t.parts < 1024) × (is_named host.name t ≡ false)
-IsNew t (entry.Part (part.Link _)) = count_by is_link t.parts < 4096
-
--- a place that was found is one of the list's
-found_within : {A : Type 0} (p : A → Bool) (xs : List A) (k : ℕ) → position p xs ≡ Some k → k < length xs
-found_within p xs k h =
-    let e = cond_some (nat_lt (position_or_len p xs) (length xs)) (position_or_len p xs) k h in
-    let below = ltb-true (position_or_len p xs) (length xs) e.0 in
-    subst (λ n. n < length xs) e.1 below
+-- ## One more
 
 -- one is mapped to what was given
 pub mapped : {A B : Type 0} (f : A → B) (o : Option A) (y : B) → option_map f o ≡ Some y → (x : A) × (o ≡ Some x) × (f x ≡ y)
 mapped f None y h = absurd (none-some y h)
 mapped f (Some x) y h = (x, refl, same_Some (f x) y h)
-
-chained : {A B : Type 0} (f : A → Option B) (o : Option A) (y : B) → option_and_then f o ≡ Some y → (x : A) × (o ≡ Some x) × (f x ≡ Some y)
-chained f None y h = absurd (none-some y h)
-chained f (Some x) y h = (x, refl, h)
-
--- both facts, of what is made of what was found
-abbrev Meets : Topology → Found → Type 0
-Meets t f = Stands t (made f) × IsNew t (made f)
-
-meets_same : (t : Topology) (x f : Found) → x ≡ f → is_out_of_range f ≡ false → (is_out_of_range x ≡ false → Meets t x) → Meets t f
-meets_same t x f same ranged each = subst (Meets t) same (each (ap is_out_of_range same ∙ ranged))
-
--- what a line gave may stand, and is new
-found_meets : (draft : Draft) (l : Line) (f : Found) → IsLine l → IsAccepted draft l f → Meets draft.topology f
-found_meets draft (line.Set s value) f fits met =
-    let t = draft.topology in
-    meets_same t (found.Set s value) f (same_Some _ _ met.found) met.ranged (λ ranged. (ranged, tt))
-found_meets draft (line.Domain name from) f fits met =
-    let t = draft.topology in
-    meets_same t (found.Domain name from) f (same_Some _ _ met.found) met.ranged (λ ranged.
-    let may = ad_may from ranged in
-    ((fits.0, origin_sized from fits.1 may, origin_version from may, origin_alone from ranged, origin_id from fits.1), (leb-false _ _ met.few, met.once)))
-found_meets draft (line.Router name domain checking master) f fits met =
-    let t = draft.topology in
-    let place = chained _ (domain_place domain t.domains) f met.found in
-    let ad = mapped _ (ad_at place.0 t.domains) f place.2 in
-    meets_same t _ f ad.2 met.ranged (λ ranged. ((fits.0, fits.1, ad.1, refl), (leb-false _ _ met.few, met.once)))
-found_meets draft (line.Host name router guarded from) f fits met =
-    let t = draft.topology in
-    let place = mapped _ (router_place router t.routers) f met.found in
-    meets_same t (found.Host name place.0 guarded from) f place.2 met.ranged (λ ranged. (
-      (fits.0, origin_sized from fits.1 ranged, found_within (names_router router) t.routers place.0 place.1, origin_version from ranged, origin_id from fits.1),
-      (leb-false _ _ met.few, met.once),
-    ))
-found_meets draft (line.Link a b a_trusts b_trusts) f fits met =
-    let t = draft.topology in
-    let first = chained _ (router_place a t.routers) f met.found in
-    let second = mapped _ (router_place b t.routers) f first.2 in
-    meets_same t _ f second.2 met.ranged
-    (λ ranged. ((found_within (names_router a) t.routers first.0 first.1, found_within (names_router b) t.routers second.0 second.1, ranged), leb-false _ _ met.few))
-
--- ## One more
 
 -- the settings with one of them changed
 set_keeps : (s : Setting) (value : ℕ) (t : Settings) → IsInRange (s, value) → AllByRecursion IsInRange (values_of t) → AllByRecursion IsInRange (values_of (with_setting s value t))
@@ -165,7 +100,7 @@ new_name name t h =
     let test : List ℕ → Bool = λ other. bytes_eq other name in
     let ds : List (List ℕ) = map (λ (domain : Domain). domain.name) t.domains in
     let rs : List (List ℕ) = map (λ (router : Router). router.name) t.routers in
-    let first = or_parts (list_any (names_domain name) t.domains) (list_any (names_router name) t.routers || list_any (names_host name) t.parts) h in
+    let first = or_parts (list_any (names_domain name) t.domains) (list_any (names_router name) t.routers || list_any (names_host name) t.parts) (sym (named_any name t) ∙ h) in
     let rest = or_parts (list_any (names_router name) t.routers) (list_any (names_host name) t.parts) first.1 in
     let no_domain : list_any test ds ≡ false = sym (any_map (λ (domain : Domain). domain.name) name t.domains) ∙ first.0 in
     let no_router : list_any test rs ≡ false = sym (any_map (λ (router : Router). router.name) name t.routers) ∙ rest.0 in
@@ -196,7 +131,7 @@ mapped_more f xs x differ new =
     subst AreDistinct (sym (map-append f xs (x ∷ []))) (added (map f xs) (f x) differ (sym (any_map f (f x) xs) ∙ new))
 
 -- what stood at a place stands there still
-ad_more : (place : ℕ) (domains : List Domain) (domain : Domain) (ad : Id) → ad_at place domains ≡ Some ad → ad_at place (domains ++ domain ∷ []) ≡ Some ad
+pub ad_more : (place : ℕ) (domains : List Domain) (domain : Domain) (ad : Id) → ad_at place domains ≡ Some ad → ad_at place (domains ++ domain ∷ []) ≡ Some ad
 ad_more place domains domain ad h =
     let found = mapped (λ (d : Domain). d.ad) (slice_get domains place) ad h in
     let below = slice_get_within domains place found.0 found.1 in
@@ -323,25 +258,22 @@ sound_with t (entry.Part (part.Link link)) k stands new alone =
 
 -- ## A whole text
 
-judged_keeps : (draft next : Draft) (l : Line) (r : Result Entry TopoFault) → IsLine l → IsSound draft.topology → r ≡ entry_or_fault draft l → with_judged draft r ≡ Ok next → IsSound next.topology
-judged_keeps draft next l (Ok e) fits k h given =
-    let it = given_accepted draft l e (sym h) in
-    let may = found_meets draft l it.gives fits it.met in
-    let same : draft_with draft e ≡ next = cc in
-    let sound = sound_with draft.topology (made it.gives) k may.0 may.1 it.met.alone in
-    subst (λ (d : Draft). IsSound d.topology) same (subst (λ x. IsSound (with_entry draft.topology x)) it.makes sound)
-judged_keeps draft next l (Err f) fits k h given = cc given
+line_keeps : (draft next : Draft) (l : Line) → IsLine l → IsSound draft.topology → with_line draft l ≡ Ok next → IsSound next.topology
+line_keeps draft next l fits k h =
+    let it = taken_accepted draft l next h in
+    let may = line_meets draft l fits it.met in
+    subst (λ (d : Draft). IsSound d.topology) it.gives (sound_with draft.topology (entry_of draft.topology l) k may.0 may.1 it.met.alone)
 
-at_line_ok : (number : ℕ) (r : Result Draft TopoFault) (next : Draft) → at_line number r ≡ Ok next → r ≡ Ok next
+pub at_line_ok : (number : ℕ) (r : Result Draft TopoFault) (next : Draft) → at_line number r ≡ Ok next → r ≡ Ok next
 at_line_ok number (Ok draft) next h = let same : draft ≡ next = cc in ap Ok same
 at_line_ok number (Err f) next h = cc h
 
-read_keeps : (number : ℕ) (draft next : Draft) (text : List ℕ) (o : Option Line) → o ≡ line_of text → IsSound draft.topology → with_read number draft o ≡ Ok next → IsSound next.topology
+read_keeps : (number : ℕ) (draft next : Draft) (text : List ℕ) (o : Option Line) → o ≡ line_in text → IsSound draft.topology → with_read number draft o ≡ Ok next → IsSound next.topology
 read_keeps number draft next text None e k h = cc h
 read_keeps number draft next text (Some l) e k h =
-    judged_keeps draft next l (entry_or_fault draft l) (line_is text l (sym e)) k refl (at_line_ok number (with_line draft l) next h)
+    line_keeps draft next l (line_found text l (sym e)).0 k (at_line_ok number (with_line draft l) next h)
 
-skipped_keeps : (b : Bool) (r : Result Draft TopoEnd) (draft next : Draft) → IsSound draft.topology → (r ≡ Ok next → IsSound next.topology) → cond b (Ok draft) r ≡ Ok next → IsSound next.topology
+skipped_keeps : (b : Bool) (r : Result Draft RefusedLine) (draft next : Draft) → IsSound draft.topology → (r ≡ Ok next → IsSound next.topology) → cond b (Ok draft) r ≡ Ok next → IsSound next.topology
 skipped_keeps true r draft next k f h = let same : draft ≡ next = cc in subst (λ (d : Draft). IsSound d.topology) same k
 skipped_keeps false r draft next k f h = f h
 
@@ -349,9 +281,9 @@ text_keeps : (number ending : ℕ) (draft next : Draft) (text : List ℕ) → Is
 text_keeps number ending draft next text k h =
     let short = past (is_long ending text) _ _ next h in
     let clean = past (has_carriage_return text) _ _ next short.1 in
-    skipped_keeps (is_skipped text) (with_read number draft (line_of text)) draft next k (read_keeps number draft next text (line_of text) refl k) clean.1
+    skipped_keeps (is_skipped text) (with_read number draft (line_in text)) draft next k (read_keeps number draft next text (line_in text) refl k) clean.1
 
-then_ok : (r : Result Draft TopoEnd) (f : Draft → Result Draft TopoEnd) (next : Draft) → then_with r f ≡ Ok next → (draft : Draft) × (r ≡ Ok draft) × (f draft ≡ Ok next)
+pub then_ok : (r : Result Draft RefusedLine) (f : Draft → Result Draft RefusedLine) (next : Draft) → then_with r f ≡ Ok next → (draft : Draft) × (r ≡ Ok draft) × (f draft ≡ Ok next)
 then_ok (Ok draft) f next h = (draft, refl, h)
 then_ok (Err e) f next h = cc h
 
@@ -380,7 +312,7 @@ empty_sound =
       identifiers_differ = tt;
     }
 
-finished_sound : (r : Result Draft TopoEnd) (t : Topology) → ((draft : Draft) → r ≡ Ok draft → IsSound draft.topology) → finished r ≡ Ok t → IsSound t
+finished_sound : (r : Result Draft RefusedLine) (t : Topology) → ((draft : Draft) → r ≡ Ok draft → IsSound draft.topology) → finished r ≡ Ok t → IsSound t
 finished_sound (Ok draft) t each h = let same : draft.topology ≡ t = cc in subst IsSound same (each draft refl)
 finished_sound (Err e) t each h = cc h
 

@@ -1,9 +1,7 @@
--- The lines of a topology's text, as words.
-use Rattle.std.specs.Prelude.{ℕ, Bool, true, false, List, codes, option_map, if◌then◌else◌, Option, Some, None}
-use Rattle.std.specs.Str.{bytes_eq}
-use Rattle.aip_addr.specs.Naming.{is_name}
-use Rattle.aip_addr.specs.declared.ids.Id.{Id}
-use Rattle.aip_text.specs.Words.{number_of, hex_sized, cut}
+-- The lines of a topology: what they say, and how each is spelled.
+use Rattle.std.specs.Prelude.{◌≡◌, ℕ, ◌<◌, ◌^◌, Bool, true, false, List, ◌∷◌, ◌++◌, length, codes, decimal, ⊤}
+use Rattle.hex.specs.Hex.{IsBytes, encode_lower}
+use Rattle.aip_addr.specs.Naming.{IsName}
 use Rattle.lmots_core.specs.declared.parameters.Width.{Width}
 use Rattle.lmots_core.specs.declared.parameters.Width.TheVariants.{W1, W2, W4, W8}
 use Rattle.lms_core.specs.declared.height.Height.{Height}
@@ -15,11 +13,7 @@ use Rattle.aip_topo.specs.declared.lines.Origin.TheVariants as origin
 use Rattle.aip_topo.specs.declared.lines.Setting.{Setting}
 use Rattle.aip_topo.specs.declared.lines.Setting.TheVariants as setting
 
-infixl 10 ◌>>=◌
--- with what was read, if anything was
-abbrev pub ◌>>=◌ : {A B : Type 0} → Option A → (A → Option B) → Option B
-None >>= f = None
-(Some x) >>= f = f x
+-- ## Words
 
 -- the word of a setting
 abbrev pub setting_word : Setting → List ℕ
@@ -32,40 +26,6 @@ setting_word setting.Threshold = codes "threshold"
 setting_word setting.Wild = codes "wild"
 setting_word setting.Wildcache = codes "wildcache"
 
--- the setting that a word is of
-abbrev pub setting_of : List ℕ → Option Setting
-setting_of word =
-    if bytes_eq word (codes "accept") then Some setting.Accept
-    else if bytes_eq word (codes "cache") then Some setting.Cache
-    else if bytes_eq word (codes "epoch") then Some setting.Epoch
-    else if bytes_eq word (codes "filter") then Some setting.Filter
-    else if bytes_eq word (codes "log") then Some setting.Log
-    else if bytes_eq word (codes "threshold") then Some setting.Threshold
-    else if bytes_eq word (codes "wild") then Some setting.Wild
-    else if bytes_eq word (codes "wildcache") then Some setting.Wildcache
-    else None
-
--- the name that a word is
-abbrev pub name_of : List ℕ → Option (List ℕ)
-name_of word = if is_name word then Some word else None
-
--- the id that 40 digits of hex are
-abbrev pub id_of : List ℕ → Option Id
-id_of word = option_map (λ bytes. record { bytes = bytes }) (hex_sized 20 word)
-
--- which of two words it is: true for the first, false for the second
-abbrev pub choice_of : List ℕ → List ℕ → List ℕ → Option Bool
-choice_of word first second =
-    if bytes_eq word first then Some true else if bytes_eq word second then Some false else None
-
--- behind `set`: a setting's word and a number
-unfoldable pub set_line : List ℕ → Option Line
-set_line text = do
-  word ← cut text
-  setting ← setting_of word.0
-  value ← number_of word.1
-  Some (line.Set setting value)
-
 -- the word of the width of a key's one-time signatures
 abbrev pub width_word : Width → List ℕ
 width_word W1 = codes "W1"
@@ -73,111 +33,76 @@ width_word W2 = codes "W2"
 width_word W4 = codes "W4"
 width_word W8 = codes "W8"
 
--- the width that a word is of
-abbrev pub width_of : List ℕ → Option Width
-width_of word =
-    if bytes_eq word (codes "W1") then Some W1
-    else if bytes_eq word (codes "W2") then Some W2
-    else if bytes_eq word (codes "W4") then Some W4
-    else if bytes_eq word (codes "W8") then Some W8
-    else None
-
 -- the word of the height of a key's tree
 abbrev pub height_word : Height → List ℕ
 height_word H5 = codes "H5"
 height_word H10 = codes "H10"
 
--- the height that a word is of
-abbrev pub height_of : List ℕ → Option Height
-height_of word = if bytes_eq word (codes "H5") then Some H5 else if bytes_eq word (codes "H10") then Some H10 else None
+-- whether a router checks sources
+abbrev pub kind_word : Bool → List ℕ
+kind_word true = codes "checking"
+kind_word false = codes "open"
 
--- behind `seed` in a domain's line: a width, a height and the 64 digits of a seed; the interface is 0
-unfoldable pub domain_seed : List ℕ → Option Origin
-domain_seed text = do
-  word ← cut text
-  width ← width_of word.0
-  next ← cut word.1
-  height ← height_of next.0
-  seed ← hex_sized 32 next.1
-  Some (origin.Seed width height 0 seed)
+-- whether a host has a guard
+abbrev pub guard_word : Bool → List ℕ
+guard_word true = codes "guarded"
+guard_word false = codes "plain"
 
--- behind `seed` in a host's line: a width, a height, the number of the interface and the 64 digits of a seed
-unfoldable pub host_seed : List ℕ → Option Origin
-host_seed text = do
-  word ← cut text
-  width ← width_of word.0
-  next ← cut word.1
-  height ← height_of next.0
-  last ← cut next.1
-  interface ← number_of last.0
-  seed ← hex_sized 32 last.1
-  Some (origin.Seed width height interface seed)
+-- whether a router trusts what comes over a link
+abbrev pub trust_word : Bool → List ℕ
+trust_word true = codes "trusted"
+trust_word false = codes "checked"
 
--- behind a domain's name: `id` and an id, or `seed` and a key
-unfoldable pub domain_form : List ℕ → Option Origin
-domain_form text = do
-  form ← cut text
-  if bytes_eq form.0 (codes "id") then option_map (λ id. origin.Given id) (id_of form.1)
-      else if bytes_eq form.0 (codes "seed") then domain_seed form.1 else None
+-- ## Lines
 
--- behind `domain`: a name, and how its id is given
-unfoldable pub domain_line : List ℕ → Option Line
-domain_line text = do
-  word ← cut text
-  name ← name_of word.0
-  from ← domain_form word.1
-  Some (line.Domain name from)
+-- a word, a space, and what follows
+infixr 5 ◌␣◌
+abbrev pub ◌␣◌ : List ℕ → List ℕ → List ℕ
+word ␣ rest = word ++ 32 ∷ rest
 
--- behind `router`: a name, a domain's name, `checking` or `open`, and the 64 digits of a master secret
-unfoldable pub router_line : List ℕ → Option Line
-router_line text = do
-  word ← cut text
-  name ← name_of word.0
-  next ← cut word.1
-  domain ← name_of next.0
-  kind ← cut next.1
-  checking ← choice_of kind.0 (codes "checking") (codes "open")
-  master ← hex_sized 32 kind.1
-  Some (line.Router name domain checking master)
+-- how the id of a domain is given: the id, or the seed of its key
+abbrev pub ad_words : Origin → List ℕ
+ad_words (origin.Given id) = codes "id" ␣ encode_lower id.bytes
+ad_words (origin.Seed width height _ seed) = codes "seed" ␣ width_word width ␣ height_word height ␣ encode_lower seed
 
--- behind a host's guard: `id` and an id, or `seed` and a key
-unfoldable pub host_form : List ℕ → Option Origin
-host_form text = do
-  form ← cut text
-  if bytes_eq form.0 (codes "id") then option_map (λ id. origin.Given id) (id_of form.1)
-      else if bytes_eq form.0 (codes "seed") then host_seed form.1 else None
+-- how the id of a host is given: the id, or the seed of its key with the interface
+abbrev pub eid_words : Origin → List ℕ
+eid_words (origin.Given id) = codes "id" ␣ encode_lower id.bytes
+eid_words (origin.Seed width height interface seed) =
+    codes "seed" ␣ width_word width ␣ height_word height ␣ decimal interface ␣ encode_lower seed
 
--- behind `host`: a name, a router's name, `guarded` or `plain`, and how its id is given
-unfoldable pub host_line : List ℕ → Option Line
-host_line text = do
-  word ← cut text
-  name ← name_of word.0
-  next ← cut word.1
-  router ← name_of next.0
-  guard ← cut next.1
-  guarded ← choice_of guard.0 (codes "guarded") (codes "plain")
-  from ← host_form guard.1
-  Some (line.Host name router guarded from)
+-- how a line is spelled
+abbrev pub line_text : Line → List ℕ
+line_text (line.Set setting value) = codes "set" ␣ setting_word setting ␣ decimal value
+line_text (line.Domain name from) = codes "domain" ␣ name ␣ ad_words from
+line_text (line.Router name domain checking master) = codes "router" ␣ name ␣ domain ␣ kind_word checking ␣ encode_lower master
+line_text (line.Host name router guarded from) = codes "host" ␣ name ␣ router ␣ guard_word guarded ␣ eid_words from
+line_text (line.Link a b a_trusts b_trusts) = codes "link" ␣ a ␣ b ␣ trust_word a_trusts ␣ trust_word b_trusts
 
--- behind `link`: two routers' names, and `trusted` or `checked` for each
-unfoldable pub link_line : List ℕ → Option Line
-link_line text = do
-  word ← cut text
-  a ← name_of word.0
-  next ← cut word.1
-  b ← name_of next.0
-  ends ← cut next.1
-  a_trusts ← choice_of ends.0 (codes "trusted") (codes "checked")
-  b_trusts ← choice_of ends.1 (codes "trusted") (codes "checked")
-  Some (line.Link a b a_trusts b_trusts)
+-- ## What a line may say
 
--- what a line of the text says, by its first word, and nothing where it is no line of a topology
-unfoldable pub line_of : List ℕ → Option Line
-line_of text = do
-  word ← cut text
-  if bytes_eq word.0 (codes "set") then set_line word.1
-      else if bytes_eq word.0 (codes "domain") then domain_line word.1
-      else if bytes_eq word.0 (codes "router") then router_line word.1
-      else if bytes_eq word.0 (codes "host") then host_line word.1
-      else if bytes_eq word.0 (codes "link") then link_line word.1
-      else None
+-- a number of at most 15 digits
+abbrev pub IsNumber : ℕ → Type 0
+IsNumber n = n < 10 ^ 15
+
+-- so many bytes
+abbrev pub IsSized : ℕ → List ℕ → Type 0
+IsSized n bytes = IsBytes bytes × (length bytes ≡ n)
+
+-- an id of 20 bytes, or a seed of 32 bytes for a domain, whose interface is 0
+abbrev pub IsAdOrigin : Origin → Type 0
+IsAdOrigin (origin.Given id) = IsSized 20 id.bytes
+IsAdOrigin (origin.Seed _ _ interface seed) = (interface ≡ 0) × IsSized 32 seed
+
+-- an id of 20 bytes, or a seed of 32 bytes with a number as interface
+abbrev pub IsEidOrigin : Origin → Type 0
+IsEidOrigin (origin.Given id) = IsSized 20 id.bytes
+IsEidOrigin (origin.Seed _ _ interface seed) = IsNumber interface × IsSized 32 seed
+
+-- a line whose names are names, whose numbers are numbers, and whose ids, seeds and secrets have their sizes
+abbrev pub IsLine : Line → Type 0
+IsLine (line.Set _ value) = ⊤ × IsNumber value
+IsLine (line.Domain name from) = IsName name × IsAdOrigin from
+IsLine (line.Router name domain _ master) = IsName name × (IsName domain × (⊤ × IsSized 32 master))
+IsLine (line.Host name router _ from) = IsName name × (IsName router × (⊤ × IsEidOrigin from))
+IsLine (line.Link a b _ _) = IsName a × (IsName b × (⊤ × ⊤))

@@ -2,15 +2,15 @@
 use Rattle.std.specs.Prelude.{◌≡◌, ℕ, ◌<◌, ◌≤◌, ◌==◌, Bool, false, List, [], ◌∷◌, ◌++◌, length, map, take, count_by, slice_index, Some}
 use Rattle.std.specs.List.{list_any, AllByRecursion}
 use Rattle.std.specs.Str.{bytes_eq}
-use Rattle.hex.specs.Hex.{IsBytes}
 use Rattle.aip_addr.specs.Ids.{id_of_key, id_of_router}
 use Rattle.aip_addr.specs.Naming.{IsName}
 use Rattle.aip_addr.specs.declared.ids.Id.{Id}
 use Rattle.lms_core.specs.Tree.{identifier_of, public_key_of}
 use Rattle.aip_topo.specs.Canonical.{values_of}
+use Rattle.aip_topo.specs.Lines.{IsSized}
 use Rattle.aip_topo.specs.Steps.{ad_at, has_interface, has_version_0, is_host, is_link, is_out_of_range}
 use Rattle.aip_topo.specs.declared.lines.Setting.{Setting}
-use Rattle.aip_topo.specs.declared.steps.Found.TheVariants as found
+use Rattle.aip_topo.specs.declared.lines.Line.TheVariants as line
 use Rattle.aip_topo.specs.declared.topology.Domain.{Domain}
 use Rattle.aip_topo.specs.declared.topology.Key.{Key}
 use Rattle.aip_topo.specs.declared.topology.Key.TheVariants as key
@@ -27,10 +27,6 @@ has_text text texts = list_any (λ other. bytes_eq other text) texts
 abbrev pub AreDistinct : List (List ℕ) → Type 0
 AreDistinct [] = Unit {0}
 AreDistinct (text ∷ texts) = (has_text text texts ≡ false) × AreDistinct texts
-
--- so many bytes
-abbrev pub IsSized : ℕ → List ℕ → Type 0
-IsSized n bytes = IsBytes bytes × (length bytes ≡ n)
 
 -- the names of the hosts, in their order
 abbrev pub host_names : List Part → List (List ℕ)
@@ -70,7 +66,7 @@ names_of t = map (λ domain. domain.name) t.domains ++ (map (λ router. router.n
 
 -- the value of a setting is in its range
 abbrev pub IsInRange : Setting × ℕ → Type 0
-IsInRange pair = is_out_of_range (found.Set pair.0 pair.1) ≡ false
+IsInRange pair = is_out_of_range (line.Set pair.0 pair.1) ≡ false
 
 -- a key that was made has a seed of 32 bytes, and the id is that of its public key, with the interface that the id
 -- itself has; an id that was given may be any

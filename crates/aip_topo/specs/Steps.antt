@@ -1,10 +1,13 @@
--- What a line may add to a topology, and the faults that keep it from it.
-use Rattle.std.specs.Prelude.{ℕ, ◌==◌, ◌||◌, Bool, true, false, not, nat_lt, nat_le, List, [], ◌∷◌, ◌++◌, length, take, count_by, position, slice_get, slice_set, slice_index, unwrap_or, option_map, option_and_then, if◌then◌else◌, Option, Some, None, Result, Ok, Err}
+-- What a line does to what stands: the faults that keep it out, in their order, and what it adds.
+use Rattle.std.specs.Prelude.{ℕ, ◌==◌, ◌||◌, Bool, true, false, not, nat_lt, nat_le, List, [], ◌∷◌, ◌++◌, length, take, count_by, position, slice_get, slice_set, slice_index, unwrap_or, option_map, replicate, if◌then◌else◌, Option, Result, Ok, Err}
 use Rattle.std.specs.List.{list_any}
+use Rattle.std.specs.Option.{is_none, is_some}
 use Rattle.std.specs.Str.{bytes_eq}
 use Rattle.aip_addr.specs.Ids.{id_of_key, id_of_router}
 use Rattle.aip_addr.specs.declared.ids.Id.{Id}
 use Rattle.lms_core.specs.Tree.{identifier_of, key_from, public_key_of}
+pub use Rattle.aip_topo.specs.Parts.{is_host, is_link}
+use Rattle.aip_topo.specs.Parts.{has_room}
 use Rattle.aip_topo.specs.declared.faults.TopoFault.{TopoFault}
 use Rattle.aip_topo.specs.declared.faults.TopoFault.TheVariants as fault
 use Rattle.aip_topo.specs.declared.lines.Line.{Line}
@@ -13,10 +16,8 @@ use Rattle.aip_topo.specs.declared.lines.Origin.{Origin}
 use Rattle.aip_topo.specs.declared.lines.Origin.TheVariants as origin
 use Rattle.aip_topo.specs.declared.lines.Setting.{Setting}
 use Rattle.aip_topo.specs.declared.lines.Setting.TheVariants as setting
-use Rattle.aip_topo.specs.declared.steps.Entry.{Entry}
-use Rattle.aip_topo.specs.declared.steps.Entry.TheVariants as entry
-use Rattle.aip_topo.specs.declared.steps.Found.{Found}
-use Rattle.aip_topo.specs.declared.steps.Found.TheVariants as found
+use Rattle.aip_topo.specs.declared.entries.Entry.{Entry}
+use Rattle.aip_topo.specs.declared.entries.Entry.TheVariants as entry
 use Rattle.aip_topo.specs.declared.steps.Draft.{Draft}
 use Rattle.aip_topo.specs.declared.topology.Settings.{Settings}
 use Rattle.aip_topo.specs.declared.topology.Domain.{Domain}
@@ -49,6 +50,22 @@ most_of setting.Threshold = 4096
 most_of setting.Wild = 4294967295
 most_of setting.Wildcache = 4096
 
+-- the value of each setting where no line sets it
+abbrev pub default_of : Setting → ℕ
+default_of setting.Accept = 600
+default_of setting.Cache = 64
+default_of setting.Epoch = 60
+default_of setting.Filter = 16
+default_of setting.Log = 128
+default_of setting.Threshold = 8
+default_of setting.Wild = 600
+default_of setting.Wildcache = 8
+
+-- the settings with these values
+abbrev pub settings_with : (Setting → ℕ) → Settings
+settings_with value =
+    record { accept = value setting.Accept; cache = value setting.Cache; epoch = value setting.Epoch; filter = value setting.Filter; log = value setting.Log; threshold = value setting.Threshold; wild = value setting.Wild; wildcache = value setting.Wildcache }
+
 -- the settings with this one at this value
 abbrev pub with_setting : Setting → ℕ → Settings → Settings
 with_setting setting.Accept value s = record s { accept = value }
@@ -59,16 +76,6 @@ with_setting setting.Log value s = record s { log = value }
 with_setting setting.Threshold value s = record s { threshold = value }
 with_setting setting.Wild value s = record s { wild = value }
 with_setting setting.Wildcache value s = record s { wildcache = value }
-
--- a host, and not a link
-abbrev pub is_host : Part → Bool
-is_host (part.Host _) = true
-is_host (part.Link _) = false
-
--- a link, and not a host
-abbrev pub is_link : Part → Bool
-is_link (part.Host _) = false
-is_link (part.Link _) = true
 
 -- there are already 64 domains, 256 routers, 1024 hosts or 4096 links, of the line's kind
 abbrev pub is_many : Topology → Line → Bool
@@ -91,10 +98,18 @@ abbrev pub names_host : List ℕ → Part → Bool
 names_host name (part.Host host) = bytes_eq host.name name
 names_host name (part.Link _) = false
 
+-- the place of the domain that has this name
+abbrev pub domain_place : List ℕ → List Domain → Option ℕ
+domain_place name domains = position (names_domain name) domains
+
+-- the place of the router that has this name
+abbrev pub router_place : List ℕ → List Router → Option ℕ
+router_place name routers = position (names_router name) routers
+
 -- the name is that of a domain, a router or a host
 abbrev pub is_named : List ℕ → Topology → Bool
 is_named name t =
-    list_any (names_domain name) t.domains || (list_any (names_router name) t.routers || list_any (names_host name) t.parts)
+    is_some (domain_place name t.domains) || (is_some (router_place name t.routers) || list_any (names_host name) t.parts)
 
 -- the setting was set before
 abbrev pub was_set : Setting → Draft → Bool
@@ -108,40 +123,13 @@ is_twice draft (line.Router name _ _ _) = is_named name draft.topology
 is_twice draft (line.Host name _ _ _) = is_named name draft.topology
 is_twice draft (line.Link _ _ _ _) = false
 
--- the place of the domain that has this name
-abbrev pub domain_place : List ℕ → List Domain → Option ℕ
-domain_place name domains = position (names_domain name) domains
-
--- the place of the router that has this name
-abbrev pub router_place : List ℕ → List Router → Option ℕ
-router_place name routers = position (names_router name) routers
-
--- the id of the domain at a place
-abbrev pub ad_at : ℕ → List Domain → Option Id
-ad_at place domains = option_map (λ domain. domain.ad) (slice_get domains place)
-
--- a router of this name in the domain of that name, and nothing where there is no such domain
-abbrev pub router_found : Topology → List ℕ → List ℕ → Bool → List ℕ → Option Found
-router_found t name domain checking master =
-    option_and_then (λ place. option_map (λ ad. found.Router (record { name = name; domain = place; checking = checking; master = master; address = record { ad = ad; eid = id_of_router name } })) (ad_at place t.domains)) (domain_place domain t.domains)
-
--- a host of this name at the router of that name, and nothing where there is no such router
-abbrev pub host_found : Topology → List ℕ → List ℕ → Bool → Origin → Option Found
-host_found t name router guarded from =
-    option_map (λ place. found.Host name place guarded from) (router_place router t.routers)
-
--- a link of the routers of these names, and nothing where there is no such router
-abbrev pub link_found : Topology → List ℕ → List ℕ → Bool → Bool → Option Found
-link_found t a b a_trusts b_trusts =
-    option_and_then (λ first. option_map (λ second. found.Link (record { a = first; b = second; a_trusts = a_trusts; b_trusts = b_trusts })) (router_place b t.routers)) (router_place a t.routers)
-
--- a line with its names looked up among the domains and routers before; nothing where one of them isn't there
-abbrev pub found_of : Topology → Line → Option Found
-found_of t (line.Set s value) = Some (found.Set s value)
-found_of t (line.Domain name from) = Some (found.Domain name from)
-found_of t (line.Router name domain checking master) = router_found t name domain checking master
-found_of t (line.Host name router guarded from) = host_found t name router guarded from
-found_of t (line.Link a b a_trusts b_trusts) = link_found t a b a_trusts b_trusts
+-- the domain or a router that the line names isn't there
+abbrev pub is_unknown : Topology → Line → Bool
+is_unknown t (line.Set _ _) = false
+is_unknown t (line.Domain _ _) = false
+is_unknown t (line.Router _ domain _ _) = is_none (domain_place domain t.domains)
+is_unknown t (line.Host _ router _ _) = is_none (router_place router t.routers)
+is_unknown t (line.Link a b _ _) = is_none (router_place a t.routers) || is_none (router_place b t.routers)
 
 -- the version byte of an id is 0
 abbrev pub has_version_0 : Id → Bool
@@ -162,12 +150,12 @@ is_no_ad (origin.Given id) = has_version_0 id || has_interface id
 is_no_ad (origin.Seed _ _ interface _) = not (interface == 0)
 
 -- a setting out of its range, an id or an interface that can't be, a link from a router to itself
-abbrev pub is_out_of_range : Found → Bool
-is_out_of_range (found.Set s value) = nat_lt value 1 || nat_lt (most_of s) value
-is_out_of_range (found.Domain _ from) = is_no_ad from
-is_out_of_range (found.Router _) = false
-is_out_of_range (found.Host _ _ _ from) = is_no_eid from
-is_out_of_range (found.Link link) = link.a == link.b
+abbrev pub is_out_of_range : Line → Bool
+is_out_of_range (line.Set s value) = nat_lt value 1 || nat_lt (most_of s) value
+is_out_of_range (line.Domain _ from) = is_no_ad from
+is_out_of_range (line.Router _ _ _ _) = false
+is_out_of_range (line.Host _ _ _ from) = is_no_eid from
+is_out_of_range (line.Link a b _ _) = bytes_eq a b
 
 -- the key that a line gives: that of its seed, where it has one
 abbrev pub key_of : Origin → Key
@@ -179,14 +167,44 @@ abbrev pub id_from : Origin → Id
 id_from (origin.Given id) = id
 id_from (origin.Seed width height interface seed) = id_of_key (public_key_of (key_from seed width height)) interface
 
--- what a line adds, with its id and its key
-abbrev pub made : Found → Entry
-made (found.Set s value) = entry.Set s value
-made (found.Domain name from) = entry.Domain (record { name = name; ad = id_from from; key = key_of from })
-made (found.Router router) = entry.Router router
-made (found.Host name router guarded from) =
-    entry.Part (part.Host (record { name = name; router = router; guarded = guarded; eid = id_from from; key = key_of from }))
-made (found.Link link) = entry.Part (part.Link link)
+-- the id of the domain at a place
+abbrev pub ad_at : ℕ → List Domain → Option Id
+ad_at place domains = option_map (λ domain. domain.ad) (slice_get domains place)
+
+-- the id of the domain at a place where there is one, and else an id of zeros
+abbrev pub ad_or_zeros : ℕ → List Domain → Id
+ad_or_zeros place domains = unwrap_or (ad_at place domains) (record { bytes = replicate 20 0 })
+
+-- a router of the domain at a place
+abbrev pub router_at : ℕ → List Domain → List ℕ → Bool → List ℕ → Router
+router_at place domains name checking master =
+    record { name = name; domain = place; checking = checking; master = master; address = record { ad = ad_or_zeros place domains; eid = id_of_router name } }
+
+-- a domain of this name, with the id and the key that its line gives
+abbrev pub domain_from : List ℕ → Origin → Domain
+domain_from name from = record { name = name; ad = id_from from; key = key_of from }
+
+-- a router of this name in the domain of that name
+abbrev pub router_from : List Domain → List ℕ → List ℕ → Bool → List ℕ → Router
+router_from domains name domain checking master = router_at (unwrap_or (domain_place domain domains) 0) domains name checking master
+
+-- a host of this name at the router of that name, with the id and the key that its line gives
+abbrev pub host_from : List Router → List ℕ → List ℕ → Bool → Origin → Part
+host_from routers name router guarded from =
+    part.Host (record { name = name; router = unwrap_or (router_place router routers) 0; guarded = guarded; eid = id_from from; key = key_of from })
+
+-- a link of the routers of these names
+abbrev pub link_from : List Router → List ℕ → List ℕ → Bool → Bool → Part
+link_from routers a b a_trusts b_trusts =
+    part.Link (record { a = unwrap_or (router_place a routers) 0; b = unwrap_or (router_place b routers) 0; a_trusts = a_trusts; b_trusts = b_trusts })
+
+-- what a line adds
+abbrev pub entry_of : Topology → Line → Entry
+entry_of t (line.Set s value) = entry.Set s value
+entry_of t (line.Domain name from) = entry.Domain (domain_from name from)
+entry_of t (line.Router name domain checking master) = entry.Router (router_from t.domains name domain checking master)
+entry_of t (line.Host name router guarded from) = entry.Part (host_from t.routers name router guarded from)
+entry_of t (line.Link a b a_trusts b_trusts) = entry.Part (link_from t.routers a b a_trusts b_trusts)
 
 -- the domain has this id
 abbrev pub has_ad : Id → Domain → Bool
@@ -249,31 +267,19 @@ given_with given (entry.Part _) = given
 abbrev pub draft_with : Draft → Entry → Draft
 draft_with draft e = record { topology = with_entry draft.topology e; given = given_with draft.given e }
 
--- what is made of what was found for a line, unless it is out of range or the twin of another; Unknown where nothing
--- was found
-abbrev pub judged : Topology → Option Found → Result Entry TopoFault
-judged t None = Err fault.Unknown
-judged t (Some f) = if is_out_of_range f then Err fault.Range else if is_twin t (made f) then Err fault.Twin else Ok (made f)
-
--- what a line adds, or its first fault: Many, Twice, Unknown, Range, Twin
-abbrev pub entry_or_fault : Draft → Line → Result Entry TopoFault
-entry_or_fault draft l =
+-- the draft with what a line adds, or the first fault of the line
+abbrev pub with_line : Draft → Line → Result Draft TopoFault
+with_line draft l =
     if is_many draft.topology l then Err fault.Many
     else if is_twice draft l then Err fault.Twice
-    else judged draft.topology (found_of draft.topology l)
-
--- the draft with what a line adds
-abbrev pub with_judged : Draft → Result Entry TopoFault → Result Draft TopoFault
-with_judged draft (Ok e) = Ok (draft_with draft e)
-with_judged draft (Err f) = Err f
-
--- the draft with a line, or the first fault of the line
-abbrev pub with_line : Draft → Line → Result Draft TopoFault
-with_line draft l = with_judged draft (entry_or_fault draft l)
+    else if is_unknown draft.topology l then Err fault.Unknown
+    else if is_out_of_range l then Err fault.Range
+    else if is_twin draft.topology (entry_of draft.topology l) then Err fault.Twin
+    else Ok (draft_with draft (entry_of draft.topology l))
 
 -- there is room for the entry, and a setting's value isn't above its range
 abbrev pub fits : Topology → Entry → Bool
 fits t (entry.Set s value) = nat_le value (most_of s)
 fits t (entry.Domain _) = nat_lt (length t.domains) 64
 fits t (entry.Router _) = nat_lt (length t.routers) 256
-fits t (entry.Part _) = true
+fits t (entry.Part p) = has_room t.parts p

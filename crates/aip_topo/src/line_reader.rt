@@ -1,117 +1,70 @@
-ghost use Rattle.std.specs.Prelude.{◌≡◌, codes, Some};
-ghost use Rattle.std.specs.Str.{bytes_eq};
-ghost use Rattle.aip_topo.specs.Lines.{choice_of, domain_form, domain_line, domain_seed, height_of, host_form, host_line, host_seed, id_of, line_of, link_line, name_of, router_line, set_line, setting_of, width_of};
+ghost use Rattle.std.specs.Prelude.{◌≡◌, IfSome, Some};
+ghost use Rattle.aip_topo.specs.Lines.{IsLine, line_text};
+ghost use Rattle.aip_topo.specs.LineReading.{ad_in, ad_seed_in, domain_in, eid_in, eid_seed_in, host_in, line_by, line_in, link_in, router_in, set_in};
+ghost use Rattle.aip_topo.specs.declared.lines.Line.{Line as SpelledLine};
 
-use crate::lines::{Line, Origin, Setting};
-use aip_addr::{Id, Name};
-use aip_text::{cut, read_hex_20, read_hex_32, read_number};
-use lms_core::{Height, Width};
+use crate::lines::{Line, Origin};
+use crate::words::{
+    guard_named, height_named, kind_named, setting_named, trust_named, width_named,
+};
+use aip_text::{cut, read_hex_array, read_id, read_name, read_number};
 
-fn is_word(word: &[u8], expected: &[u8]) -> bool
-    ensures { result ≡ bytes_eq word.now expected.now }
+/// The line that a text spells, without its line feed, and None where it spells no line of a
+/// topology.
+pub fn read_line(text: &[u8]) -> Option<Line>
+    ensures exact { result ≡ line_in text.now }
+    ensures found { IfSome result (λ line. IsLine line × (text.now ≡ line_text line)) }
+    ensures again { (line : SpelledLine) → IsLine line → text.now ≡ line_text line → result ≡ Some line }
 {
-    word == expected
+    read_exactly(text)
 }
 
-fn setting_of(word: &[u8]) -> Option<Setting>
-    ensures { result ≡ setting_of word.now }
-{
-    if is_word(word, b"accept") {
-        Some(Setting::Accept)
-    } else if is_word(word, b"cache") {
-        Some(Setting::Cache)
-    } else if is_word(word, b"epoch") {
-        Some(Setting::Epoch)
-    } else if is_word(word, b"filter") {
-        Some(Setting::Filter)
-    } else if is_word(word, b"log") {
-        Some(Setting::Log)
-    } else if is_word(word, b"threshold") {
-        Some(Setting::Threshold)
-    } else if is_word(word, b"wild") {
-        Some(Setting::Wild)
-    } else if is_word(word, b"wildcache") {
-        Some(Setting::Wildcache)
-    } else {
-        None
-    }
-}
-
-fn name_of(word: &[u8]) -> Option<Name>
-    ensures { result ≡ name_of word.now }
-{
-    Name::read(word)
-}
-
-fn id_of(word: &[u8]) -> Option<Id>
-    ensures { result ≡ id_of word.now }
-{
-    match read_hex_20(word) {
-        Some(bytes) => Some(Id { bytes }),
-        None => None,
-    }
-}
-
-// Which of two words it is: true for the first, false for the second.
-fn choice_of(word: &[u8], first: &[u8], second: &[u8]) -> Option<bool>
-    ensures { result ≡ choice_of word.now first.now second.now }
-{
-    if is_word(word, first) {
-        Some(true)
-    } else if is_word(word, second) {
-        Some(false)
-    } else {
-        None
-    }
-}
-
-fn width_of(word: &[u8]) -> Option<Width>
-    ensures { result ≡ width_of word.now }
-{
-    if is_word(word, b"W1") {
-        Some(Width::W1)
-    } else if is_word(word, b"W2") {
-        Some(Width::W2)
-    } else if is_word(word, b"W4") {
-        Some(Width::W4)
-    } else if is_word(word, b"W8") {
-        Some(Width::W8)
-    } else {
-        None
-    }
-}
-
-fn height_of(word: &[u8]) -> Option<Height>
-    ensures { result ≡ height_of word.now }
-{
-    if is_word(word, b"H5") {
-        Some(Height::H5)
-    } else if is_word(word, b"H10") {
-        Some(Height::H10)
-    } else {
-        None
-    }
-}
-
-#[tactic(auto, unfolding(crate::specs::Lines::set_line))]
-fn set_line(text: &[u8]) -> Option<Line>
-    ensures { result ≡ set_line text.now }
+#[tactic(auto, unfolding(crate::specs::LineReading::line_in))]
+fn read_exactly(text: &[u8]) -> Option<Line>
+    ensures { result ≡ line_in text.now }
 {
     let (word, rest) = cut(text)?;
-    let setting = setting_of(word)?;
-    let value = read_number(rest)?;
+    read_by(word, rest)
+}
+
+// The line, by its first word.
+fn read_by(word: &[u8], rest: &[u8]) -> Option<Line>
+    ensures { result ≡ line_by word.now rest.now }
+{
+    if word == b"set".as_slice() {
+        set_in(rest)
+    } else if word == b"domain".as_slice() {
+        domain_in(rest)
+    } else if word == b"router".as_slice() {
+        router_in(rest)
+    } else if word == b"host".as_slice() {
+        host_in(rest)
+    } else if word == b"link".as_slice() {
+        link_in(rest)
+    } else {
+        None
+    }
+}
+
+#[tactic(auto, unfolding(crate::specs::LineReading::set_in))]
+fn set_in(rest: &[u8]) -> Option<Line>
+    ensures { result ≡ set_in rest.now }
+{
+    let (setting, value) = cut(rest)?;
+    let setting = setting_named(setting)?;
+    let value = read_number(value)?;
     Some(Line::Set { setting, value })
 }
 
-#[tactic(auto, unfolding(crate::specs::Lines::domain_seed))]
-fn domain_seed(text: &[u8]) -> Option<Origin>
-    ensures { result ≡ domain_seed text.now }
+// Behind `seed` in a domain's line.
+fn ad_seed_in(rest: &[u8]) -> Option<Origin>
+    ensures { result ≡ ad_seed_in rest.now }
 {
-    let (word, rest) = cut(text)?;
-    let width = width_of(word)?;
-    let (word, seed) = cut(rest)?;
-    let height = height_of(word)?;
-    let seed = read_hex_32(seed)?;
+    let (width, rest) = cut(rest)?;
+    let width = width_named(width)?;
+    let (height, seed) = cut(rest)?;
+    let height = height_named(height)?;
+    let seed = read_hex_array(seed)?;
     Some(Origin::Seed {
         width,
         height,
@@ -120,17 +73,17 @@ fn domain_seed(text: &[u8]) -> Option<Origin>
     })
 }
 
-#[tactic(auto, unfolding(crate::specs::Lines::host_seed))]
-fn host_seed(text: &[u8]) -> Option<Origin>
-    ensures { result ≡ host_seed text.now }
+// Behind `seed` in a host's line.
+fn eid_seed_in(rest: &[u8]) -> Option<Origin>
+    ensures { result ≡ eid_seed_in rest.now }
 {
-    let (word, rest) = cut(text)?;
-    let width = width_of(word)?;
-    let (word, rest) = cut(rest)?;
-    let height = height_of(word)?;
-    let (word, seed) = cut(rest)?;
-    let interface = read_number(word)?;
-    let seed = read_hex_32(seed)?;
+    let (width, rest) = cut(rest)?;
+    let width = width_named(width)?;
+    let (height, rest) = cut(rest)?;
+    let height = height_named(height)?;
+    let (interface, seed) = cut(rest)?;
+    let interface = read_number(interface)?;
+    let seed = read_hex_array(seed)?;
     Some(Origin::Seed {
         width,
         height,
@@ -139,42 +92,55 @@ fn host_seed(text: &[u8]) -> Option<Origin>
     })
 }
 
-#[tactic(auto, unfolding(crate::specs::Lines::domain_form))]
-fn domain_form(text: &[u8]) -> Option<Origin>
-    ensures { result ≡ domain_form text.now }
+fn ad_in(text: &[u8]) -> Option<Origin>
+    ensures { result ≡ ad_in text.now }
 {
     let (form, rest) = cut(text)?;
-    if is_word(form, b"id") {
-        let id = id_of(rest)?;
+    if form == b"id".as_slice() {
+        let id = read_id(rest)?;
         Some(Origin::Given(id))
-    } else if is_word(form, b"seed") {
-        domain_seed(rest)
+    } else if form == b"seed".as_slice() {
+        ad_seed_in(rest)
     } else {
         None
     }
 }
 
-#[tactic(auto, unfolding(crate::specs::Lines::domain_line))]
-fn domain_line(text: &[u8]) -> Option<Line>
-    ensures { result ≡ domain_line text.now }
+fn eid_in(text: &[u8]) -> Option<Origin>
+    ensures { result ≡ eid_in text.now }
 {
-    let (word, rest) = cut(text)?;
-    let name = name_of(word)?;
-    let origin = domain_form(rest)?;
+    let (form, rest) = cut(text)?;
+    if form == b"id".as_slice() {
+        let id = read_id(rest)?;
+        Some(Origin::Given(id))
+    } else if form == b"seed".as_slice() {
+        eid_seed_in(rest)
+    } else {
+        None
+    }
+}
+
+#[tactic(auto, unfolding(crate::specs::LineReading::domain_in))]
+fn domain_in(rest: &[u8]) -> Option<Line>
+    ensures { result ≡ domain_in rest.now }
+{
+    let (name, from) = cut(rest)?;
+    let name = read_name(name)?;
+    let origin = ad_in(from)?;
     Some(Line::Domain { name, origin })
 }
 
-#[tactic(auto, unfolding(crate::specs::Lines::router_line))]
-fn router_line(text: &[u8]) -> Option<Line>
-    ensures { result ≡ router_line text.now }
+#[tactic(auto, unfolding(crate::specs::LineReading::router_in))]
+fn router_in(rest: &[u8]) -> Option<Line>
+    ensures { result ≡ router_in rest.now }
 {
-    let (word, rest) = cut(text)?;
-    let name = name_of(word)?;
-    let (word, rest) = cut(rest)?;
-    let domain = name_of(word)?;
+    let (name, rest) = cut(rest)?;
+    let name = read_name(name)?;
+    let (domain, rest) = cut(rest)?;
+    let domain = read_name(domain)?;
     let (kind, master) = cut(rest)?;
-    let checking = choice_of(kind, b"checking", b"open")?;
-    let master = read_hex_32(master)?;
+    let checking = kind_named(kind)?;
+    let master = read_hex_array(master)?;
     Some(Line::Router {
         name,
         domain,
@@ -183,32 +149,17 @@ fn router_line(text: &[u8]) -> Option<Line>
     })
 }
 
-#[tactic(auto, unfolding(crate::specs::Lines::host_form))]
-fn host_form(text: &[u8]) -> Option<Origin>
-    ensures { result ≡ host_form text.now }
+#[tactic(auto, unfolding(crate::specs::LineReading::host_in))]
+fn host_in(rest: &[u8]) -> Option<Line>
+    ensures { result ≡ host_in rest.now }
 {
-    let (form, rest) = cut(text)?;
-    if is_word(form, b"id") {
-        let id = id_of(rest)?;
-        Some(Origin::Given(id))
-    } else if is_word(form, b"seed") {
-        host_seed(rest)
-    } else {
-        None
-    }
-}
-
-#[tactic(auto, unfolding(crate::specs::Lines::host_line))]
-fn host_line(text: &[u8]) -> Option<Line>
-    ensures { result ≡ host_line text.now }
-{
-    let (word, rest) = cut(text)?;
-    let name = name_of(word)?;
-    let (word, rest) = cut(rest)?;
-    let router = name_of(word)?;
-    let (guard, rest) = cut(rest)?;
-    let guarded = choice_of(guard, b"guarded", b"plain")?;
-    let origin = host_form(rest)?;
+    let (name, rest) = cut(rest)?;
+    let name = read_name(name)?;
+    let (router, rest) = cut(rest)?;
+    let router = read_name(router)?;
+    let (guard, from) = cut(rest)?;
+    let guarded = guard_named(guard)?;
+    let origin = eid_in(from)?;
     Some(Line::Host {
         name,
         router,
@@ -217,42 +168,21 @@ fn host_line(text: &[u8]) -> Option<Line>
     })
 }
 
-#[tactic(auto, unfolding(crate::specs::Lines::link_line))]
-fn link_line(text: &[u8]) -> Option<Line>
-    ensures { result ≡ link_line text.now }
+#[tactic(auto, unfolding(crate::specs::LineReading::link_in))]
+fn link_in(rest: &[u8]) -> Option<Line>
+    ensures { result ≡ link_in rest.now }
 {
-    let (word, rest) = cut(text)?;
-    let a = name_of(word)?;
-    let (word, rest) = cut(rest)?;
-    let b = name_of(word)?;
+    let (a, rest) = cut(rest)?;
+    let a = read_name(a)?;
+    let (b, rest) = cut(rest)?;
+    let b = read_name(b)?;
     let (first, second) = cut(rest)?;
-    let a_trusts = choice_of(first, b"trusted", b"checked")?;
-    let b_trusts = choice_of(second, b"trusted", b"checked")?;
+    let a_trusts = trust_named(first)?;
+    let b_trusts = trust_named(second)?;
     Some(Line::Link {
         a,
         b,
         a_trusts,
         b_trusts,
     })
-}
-
-/// What a line of the text says, and None where it is no line of a topology.
-#[tactic(auto, unfolding(crate::specs::Lines::line_of))]
-pub fn line_of(text: &[u8]) -> Option<Line>
-    ensures { result ≡ line_of text.now }
-{
-    let (word, rest) = cut(text)?;
-    if is_word(word, b"set") {
-        set_line(rest)
-    } else if is_word(word, b"domain") {
-        domain_line(rest)
-    } else if is_word(word, b"router") {
-        router_line(rest)
-    } else if is_word(word, b"host") {
-        host_line(rest)
-    } else if is_word(word, b"link") {
-        link_line(rest)
-    } else {
-        None
-    }
 }

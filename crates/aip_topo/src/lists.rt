@@ -1,4 +1,5 @@
-ghost use Rattle.std.specs.Prelude.{◌≡◌, ◌<◌, ◌≤◌, [], ◌∷◌, ◌++◌, length, OnOk, OnErr};
+ghost use Rattle.std.specs.Prelude.{◌≡◌, ◌<◌, ◌≤◌, [], ◌∷◌, ◌++◌, count_by, length, IsTrue, OnOk, OnErr};
+ghost use Rattle.aip_topo.specs.Parts.{has_room, is_host, is_link};
 
 use crate::topology::{Domain, Part, Router};
 use aip_addr::Memory;
@@ -109,19 +110,34 @@ impl Routers {
     }
 }
 
-/// The hosts and links of a topology, in the order of their ports. Contracts see the list of them.
+fn is_host(part: &Part) -> bool
+    ensures { result ≡ is_host part.now }
+{
+    match part {
+        Part::Host(_) => true,
+        Part::Link(_) => false,
+    }
+}
+
+/// The hosts and links of a topology, in the order of their ports, and how many there are of each.
+/// Contracts see the list of them.
 #[derive(Drop)]
 pub struct Parts {
     content: Vec<Part>,
+    hosts: usize,
+    links: usize,
 }
 
 impl Model for Parts {
-    ghost use Rattle.std.specs.Prelude.{List};
+    ghost use Rattle.std.specs.Prelude.{List, ◌≡◌, count_by};
+    ghost use Rattle.aip_topo.specs.Parts.{is_host, is_link};
     ghost use Rattle.aip_topo.specs.declared.topology.Part.{Part};
 
     ghost Value = { List Part };
 
     ghost view = { λ p. p.content.items };
+
+    ghost invariant = { λ p. (p.hosts ≡ count_by is_host p.content.items) × (p.links ≡ count_by is_link p.content.items) };
 }
 
 impl Parts {
@@ -131,6 +147,8 @@ impl Parts {
     {
         Parts {
             content: Vec::new(alloc),
+            hosts: 0,
+            links: 0,
         }
     }
 
@@ -141,13 +159,34 @@ impl Parts {
         self.content.as_slice()
     }
 
+    /// How many hosts there are.
+    pub fn hosts(&self) -> usize
+        ensures { result ≡ count_by is_host self.now }
+    {
+        self.hosts
+    }
+
+    /// How many links there are.
+    pub fn links(&self) -> usize
+        ensures { result ≡ count_by is_link self.now }
+    {
+        self.links
+    }
+
     /// Adds a host or a link behind the others. The only error is want of memory, and then nothing
     /// changes.
     pub fn push(&mut self, part: Part) -> Result<(), Memory>
+        requires { IsTrue (has_room self.old part) }
         ensures ok { OnOk result (self.new ≡ self.old ++ part ∷ []) }
         ensures err { OnErr result (self.new ≡ self.old) }
     {
+        let host = is_host(&part);
         self.content.push(part)?;
+        if host {
+            self.hosts += 1;
+        } else {
+            self.links += 1;
+        }
         Ok(())
     }
 }

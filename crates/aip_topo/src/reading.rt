@@ -1,30 +1,33 @@
-ghost use Rattle.std.specs.Prelude.{◌≡◌, ◌<◌, ◌≤◌, ◌+◌, Some, IfOk, IfErr, OnOk, length};
+ghost use Rattle.std.specs.Prelude.{◌≡◌, ◌<◌, ◌≤◌, ◌+◌, ℕ, IfOk, IfErr, List, OnOk, length, take};
 ghost use Rattle.aip_text.specs.Lines.{lines_of};
-ghost use Rattle.aip_topo.specs.Lines.{line_of};
+ghost use Rattle.aip_topo.specs.Meaning.{IsSaid};
 ghost use Rattle.aip_topo.specs.Sound.{IsSound};
-ghost use Rattle.aip_topo.specs.Reading.{Tells, empty_draft, is_long, topology_of, with_lines, with_read, with_text};
+ghost use Rattle.aip_topo.specs.Reading.{Tells, empty_draft, is_long, topology_of, with_lines, with_text};
 
 use crate::faults::{TopoEnd, TopoFault};
-use crate::line_reader::line_of;
-use crate::lines::Line;
+use crate::line_reader::read_line;
 use crate::lists::{Domains, Parts, Routers};
-use crate::steps::{Draft, add, entry_or_fault};
+use crate::steps::{Draft, refused, take};
 use crate::topology::{Settings, Topology};
-use aip_text::{has_carriage_return, is_skipped, next_line};
+use aip_text::{LONGEST_LINE, has_carriage_return, is_skipped, next_line};
 use std::alloc::Global;
 
-/// The most bytes of a line.
-const LONGEST_LINE: usize = 20_000;
-
-/// The most bytes of a text that are read, line feeds included.
+/// The most bytes of a text whose lines are taken, line feeds included.
 const LONGEST_TEXT: usize = 1_048_576;
 
+/// How many bytes of a text decide what it gives: `read` of the first so many bytes of a longer text
+/// gives what it gives for the whole text.
+pub const MOST_READ: usize = LONGEST_TEXT + 1;
+
 /// The topology that the text gives, with the trees of the keys that its seeds make. A refusal names
-/// the first line that is refused, with the first fault that applies to it.
+/// the first line that is refused, with the first fault that applies to it. A text of `MOST_READ`
+/// bytes gives what each text gives that it is the beginning of.
 pub fn read(alloc: Global, text: &[u8]) -> Result<Topology, TopoEnd>
     ensures found { IfOk result (λ topology. topology_of text.now ≡ Ok topology) }
     ensures sound { IfOk result IsSound }
+    ensures said { IfOk result (IsSaid text.now) }
     ensures refused { IfErr result (λ end. Tells end (topology_of text.now)) }
+    ensures decided { (whole : List ℕ) → text.now ≡ take 1048577 whole → topology_of whole ≡ topology_of text.now }
 {
     read_exactly(alloc, text)
 }
@@ -100,34 +103,14 @@ fn read_text(
     if is_skipped(text) {
         return Ok(());
     }
-    match line_of(text) {
+    match read_line(text) {
         None => Err(refused(number, TopoFault::Form)),
         Some(line) => take(alloc, draft, number, &line),
     }
-}
-
-fn refused(line: u32, fault: TopoFault) -> TopoEnd
-    ensures { result ≡ TopoEnd.Line line fault }
-{
-    TopoEnd::Line { line, fault }
 }
 
 fn is_long(ending: usize, text: &[u8]) -> bool
     ensures { result ≡ is_long ending text.now }
 {
     text.len() > LONGEST_LINE || ending > LONGEST_TEXT
-}
-
-// Takes the line of this number into the draft.
-fn take(alloc: Global, draft: &mut Draft, number: u32, line: &Line) -> Result<(), TopoEnd>
-    ensures ok { OnOk result (with_read number draft.old (Some line.now) ≡ Ok draft.new) }
-    ensures err { IfErr result (λ end. Tells end (with_read number draft.old (Some line.now))) }
-{
-    match entry_or_fault(alloc, draft, line)? {
-        Ok(entry) => {
-            add(draft, entry)?;
-            Ok(())
-        }
-        Err(fault) => Err(refused(number, fault)),
-    }
 }

@@ -1,6 +1,7 @@
 use super::*;
 use aip_addr::Memory;
-use aip_text::{push_hex, push_number, push_text, read_hex_20};
+use aip_text::{push_hex, push_number, push_text, read_hex_array};
+use lms_core::Width;
 use std::alloc::Global;
 use std::test::Fail;
 
@@ -192,7 +193,43 @@ fn lines_that_are_too_long(rt: HostRuntime) -> Result<(), Fail> {
     // The last line feed lies past the first 1,048,576 bytes.
     let feeds = vec![in rt.alloc(); 10; 1_048_577]?;
     assert_eq!(rt; refusal(rt.alloc(), &feeds), Some((1_048_577, 7)));
+    assert_eq!(rt; feeds.len(), MOST_READ);
     assert!(rt; read(rt.alloc(), &feeds[1..]).is_ok());
+    Ok(())
+}
+
+#[test]
+fn lines_have_one_spelling(rt: HostRuntime) -> Result<(), Fail> {
+    let link = read_line(b"link r s trusted checked");
+    assert!(rt;
+        matches!(
+            link,
+            Some(Line::Link {
+                a_trusts: true,
+                b_trusts: false,
+                ..
+            })
+        )
+    );
+    assert!(rt; read_line(b"link r s trusted checked x").is_none());
+    assert!(rt; read_line(b"link r s trusted  checked").is_none());
+    let seed =
+        b"domain d seed W8 H10 3131313131313131313131313131313131313131313131313131313131313131";
+    assert!(rt;
+        matches!(
+            read_line(seed),
+            Some(Line::Domain {
+                origin: Origin::Seed {
+                    width: Width::W8,
+                    ..
+                },
+                ..
+            })
+        )
+    );
+    let wide =
+        b"domain d seed 16 H10 3131313131313131313131313131313131313131313131313131313131313131";
+    assert!(rt; read_line(wide).is_none());
     Ok(())
 }
 
@@ -223,15 +260,15 @@ fn ids_of_keys(rt: HostRuntime) -> Result<(), Fail> {
     let network = read(rt.alloc(), KEYED)?;
     assert_eq!(rt;
         ad_at(network.domains.as_slice(), 0),
-        read_hex_20(b"01fd22979883654eeff4dbd61711167a3467d700")
+        read_hex_array::<20>(b"01fd22979883654eeff4dbd61711167a3467d700")
     );
     assert_eq!(rt;
         eid_at(network.parts.as_slice(), 0),
-        read_hex_20(b"014b9c00c66d49570c20a6f6d68acc494fcddb00")
+        read_hex_array::<20>(b"014b9c00c66d49570c20a6f6d68acc494fcddb00")
     );
     assert_eq!(rt;
         eid_at(network.parts.as_slice(), 1),
-        read_hex_20(b"013c14e5fbf1c85e4c0723b642b58cc8aeca3eff")
+        read_hex_array::<20>(b"013c14e5fbf1c85e4c0723b642b58cc8aeca3eff")
     );
     Ok(())
 }

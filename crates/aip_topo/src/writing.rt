@@ -1,15 +1,16 @@
-ghost use Rattle.std.specs.Prelude.{◌≡◌, ◌++◌, ◌∷◌, [], IfOk, OnOk, flat_map};
+ghost use Rattle.std.specs.Prelude.{◌≡◌, ◌++◌, ◌∷◌, [], IfOk, OnOk, codes};
 ghost use Rattle.hex.specs.Hex.{encode_lower};
-ghost use Rattle.aip_topo.specs.Canonical.{ad_text, canonical_text, domain_name, domain_text, eid_text, guard_word, hex_end, host_text, kind_word, link_text, part_text, router_name, router_text, seed_words, set_text, settings_text, trust_word, value_text, values_of, words};
-ghost use Rattle.aip_topo.specs.Lines.{height_word, setting_word, width_word};
+ghost use Rattle.aip_topo.specs.Canonical.{ad_origin, canonical_text, domain_line, domain_name, eid_origin, lines_text, part_line, router_line, router_name, settings_text, value_line, values_of};
+ghost use Rattle.aip_topo.specs.Lines.{ad_words, eid_words, height_word, line_text, width_word, ◌␣◌};
 ghost use Rattle.aip_topo.specs.Reading.{topology_of};
 ghost use Rattle.aip_topo.specs.Sound.{IsSound};
 
-use crate::lines::Setting;
+use crate::lines::{Line, Setting};
 use crate::topology::{Domain, HostPart, Key, LinkPart, Part, Router, Settings, Topology};
+use crate::words::{guard_word, height_word, kind_word, setting_word, trust_word, width_word};
 use aip_addr::{Bytes, Id, Memory};
 use aip_text::{push_hex, push_number, push_space, push_text, push_word};
-use lms_core::{Height, Tree, Width};
+use lms_core::Tree;
 use std::alloc::Global;
 
 /// The canonical text of the topology: the eight settings, the domains, the routers, then the hosts
@@ -59,7 +60,7 @@ fn values_of(settings: &Settings) -> [(Setting, u64); 8]
 }
 
 fn write_values(out: &mut Vec<u8>, values: &[(Setting, u64)]) -> Result<(), Memory>
-    ensures { OnOk result (out.new.items ≡ out.old.items ++ flat_map value_text values.now) }
+    ensures { OnOk result (out.new.items ≡ out.old.items ++ lines_text value_line values.now) }
 {
     for value in values {
         write_value(out, value.0, value.1)?;
@@ -67,23 +68,8 @@ fn write_values(out: &mut Vec<u8>, values: &[(Setting, u64)]) -> Result<(), Memo
     Ok(())
 }
 
-fn setting_word(setting: Setting) -> &'static [u8]
-    ensures { result.now ≡ setting_word setting }
-{
-    match setting {
-        Setting::Accept => b"accept",
-        Setting::Cache => b"cache",
-        Setting::Epoch => b"epoch",
-        Setting::Filter => b"filter",
-        Setting::Log => b"log",
-        Setting::Threshold => b"threshold",
-        Setting::Wild => b"wild",
-        Setting::Wildcache => b"wildcache",
-    }
-}
-
 fn write_value(out: &mut Vec<u8>, setting: Setting, value: u64) -> Result<(), Memory>
-    ensures { OnOk result (out.new.items ≡ out.old.items ++ set_text setting value) }
+    ensures { OnOk result (out.new.items ≡ out.old.items ++ (line_text (Line.Set setting value) ++ 10 ∷ [])) }
 {
     push_text(out, b"set")?;
     push_word(out, setting_word(setting))?;
@@ -92,26 +78,16 @@ fn write_value(out: &mut Vec<u8>, setting: Setting, value: u64) -> Result<(), Me
     push_text(out, b"\n")
 }
 
-// Appends three words with a space between them.
-fn push_words(out: &mut Vec<u8>, first: &[u8], second: &[u8], third: &[u8]) -> Result<(), Memory>
-    ensures { OnOk result (out.new.items ≡ out.old.items ++ words first.now second.now third.now) }
-{
-    push_text(out, first)?;
-    push_word(out, second)?;
-    push_word(out, third)
-}
-
-// Appends a last word of hex and the line feed.
-fn push_hex_end(out: &mut Vec<u8>, bytes: &[u8]) -> Result<(), Memory>
-    ensures { OnOk result (out.new.items ≡ out.old.items ++ hex_end bytes.now) }
+// Appends a space and the bytes in hex.
+fn push_hex_word(out: &mut Vec<u8>, bytes: &[u8]) -> Result<(), Memory>
+    ensures { OnOk result (out.new.items ≡ out.old.items ++ 32 ∷ encode_lower bytes.now) }
 {
     push_space(out)?;
-    push_hex(out, bytes)?;
-    push_text(out, b"\n")
+    push_hex(out, bytes)
 }
 
 fn write_domains(out: &mut Vec<u8>, domains: &[Domain]) -> Result<(), Memory>
-    ensures { OnOk result (out.new.items ≡ out.old.items ++ flat_map domain_text domains.now) }
+    ensures { OnOk result (out.new.items ≡ out.old.items ++ lines_text domain_line domains.now) }
 {
     for domain in domains {
         write_domain(out, domain)?;
@@ -120,76 +96,54 @@ fn write_domains(out: &mut Vec<u8>, domains: &[Domain]) -> Result<(), Memory>
 }
 
 fn write_domain(out: &mut Vec<u8>, domain: &Domain) -> Result<(), Memory>
-    ensures { OnOk result (out.new.items ≡ out.old.items ++ domain_text domain.now) }
+    ensures { OnOk result (out.new.items ≡ out.old.items ++ (line_text (domain_line domain.now) ++ 10 ∷ [])) }
 {
     push_text(out, b"domain")?;
     push_word(out, domain.name.bytes())?;
     push_space(out)?;
-    write_ad(out, &domain.key, &domain.ad)
-}
-
-fn width_word(width: Width) -> &'static [u8]
-    ensures { result.now ≡ width_word width }
-{
-    match width {
-        Width::W1 => b"W1",
-        Width::W2 => b"W2",
-        Width::W4 => b"W4",
-        Width::W8 => b"W8",
-    }
-}
-
-fn height_word(height: Height) -> &'static [u8]
-    ensures { result.now ≡ height_word height }
-{
-    match height {
-        Height::H5 => b"H5",
-        Height::H10 => b"H10",
-    }
+    push_ad(out, &domain.key, &domain.ad)?;
+    push_text(out, b"\n")
 }
 
 // Appends `seed`, the width and the height.
-fn push_seed_words(out: &mut Vec<u8>, tree: &Tree) -> Result<(), Memory>
-    ensures { OnOk result (out.new.items ≡ out.old.items ++ seed_words tree.now) }
+fn push_seed(out: &mut Vec<u8>, tree: &Tree) -> Result<(), Memory>
+    ensures { OnOk result (out.new.items ≡ out.old.items ++ (codes "seed" ␣ width_word tree.now.width ␣ height_word tree.now.height)) }
 {
-    push_words(
-        out,
-        b"seed",
-        width_word(tree.width()),
-        height_word(tree.height()),
-    )
+    push_text(out, b"seed")?;
+    push_word(out, width_word(tree.width()))?;
+    push_word(out, height_word(tree.height()))
 }
 
-// Appends how a domain's id is given, and the line feed.
-fn write_ad(out: &mut Vec<u8>, key: &Key, ad: &Id) -> Result<(), Memory>
-    ensures { OnOk result (out.new.items ≡ out.old.items ++ ad_text key.now ad.now) }
+// Appends how a domain's id is given.
+fn push_ad(out: &mut Vec<u8>, key: &Key, ad: &Id) -> Result<(), Memory>
+    ensures { OnOk result (out.new.items ≡ out.old.items ++ ad_words (ad_origin key.now ad.now)) }
 {
     match key {
         Key::Given => {
             push_text(out, b"id")?;
-            push_hex_end(out, &ad.bytes)
+            push_hex_word(out, &ad.bytes)
         }
         Key::Made(tree) => {
-            push_seed_words(out, tree)?;
-            push_hex_end(out, &tree.seed())
+            push_seed(out, tree)?;
+            push_hex_word(out, &tree.seed())
         }
     }
 }
 
-// Appends how a host's id is given, and the line feed.
-fn write_eid(out: &mut Vec<u8>, key: &Key, eid: &Id) -> Result<(), Memory>
-    ensures { OnOk result (out.new.items ≡ out.old.items ++ eid_text key.now eid.now) }
+// Appends how a host's id is given.
+fn push_eid(out: &mut Vec<u8>, key: &Key, eid: &Id) -> Result<(), Memory>
+    ensures { OnOk result (out.new.items ≡ out.old.items ++ eid_words (eid_origin key.now eid.now)) }
 {
     match key {
         Key::Given => {
             push_text(out, b"id")?;
-            push_hex_end(out, &eid.bytes)
+            push_hex_word(out, &eid.bytes)
         }
         Key::Made(tree) => {
-            push_seed_words(out, tree)?;
+            push_seed(out, tree)?;
             push_space(out)?;
             push_number(out, eid.bytes[19] as u64)?;
-            push_hex_end(out, &tree.seed())
+            push_hex_word(out, &tree.seed())
         }
     }
 }
@@ -212,26 +166,8 @@ fn router_name(routers: &[Router], place: u16) -> &[u8]
     }
 }
 
-fn kind_word(checking: bool) -> &'static [u8]
-    ensures { result.now ≡ kind_word checking }
-{
-    if checking { b"checking" } else { b"open" }
-}
-
-fn guard_word(guarded: bool) -> &'static [u8]
-    ensures { result.now ≡ guard_word guarded }
-{
-    if guarded { b"guarded" } else { b"plain" }
-}
-
-fn trust_word(trusts: bool) -> &'static [u8]
-    ensures { result.now ≡ trust_word trusts }
-{
-    if trusts { b"trusted" } else { b"checked" }
-}
-
 fn write_routers(out: &mut Vec<u8>, domains: &[Domain], routers: &[Router]) -> Result<(), Memory>
-    ensures { OnOk result (out.new.items ≡ out.old.items ++ flat_map (router_text domains.now) routers.now) }
+    ensures { OnOk result (out.new.items ≡ out.old.items ++ lines_text (router_line domains.now) routers.now) }
 {
     for router in routers {
         write_router(out, domains, router)?;
@@ -240,16 +176,18 @@ fn write_routers(out: &mut Vec<u8>, domains: &[Domain], routers: &[Router]) -> R
 }
 
 fn write_router(out: &mut Vec<u8>, domains: &[Domain], router: &Router) -> Result<(), Memory>
-    ensures { OnOk result (out.new.items ≡ out.old.items ++ router_text domains.now router.now) }
+    ensures { OnOk result (out.new.items ≡ out.old.items ++ (line_text (router_line domains.now router.now) ++ 10 ∷ [])) }
 {
-    let domain = domain_name(domains, router.domain);
-    push_words(out, b"router", router.name.bytes(), domain)?;
+    push_text(out, b"router")?;
+    push_word(out, router.name.bytes())?;
+    push_word(out, domain_name(domains, router.domain))?;
     push_word(out, kind_word(router.checking))?;
-    push_hex_end(out, &router.master)
+    push_hex_word(out, &router.master)?;
+    push_text(out, b"\n")
 }
 
 fn write_parts(out: &mut Vec<u8>, routers: &[Router], parts: &[Part]) -> Result<(), Memory>
-    ensures { OnOk result (out.new.items ≡ out.old.items ++ flat_map (part_text routers.now) parts.now) }
+    ensures { OnOk result (out.new.items ≡ out.old.items ++ lines_text (part_line routers.now) parts.now) }
 {
     for part in parts {
         write_part(out, routers, part)?;
@@ -258,7 +196,7 @@ fn write_parts(out: &mut Vec<u8>, routers: &[Router], parts: &[Part]) -> Result<
 }
 
 fn write_part(out: &mut Vec<u8>, routers: &[Router], part: &Part) -> Result<(), Memory>
-    ensures { OnOk result (out.new.items ≡ out.old.items ++ part_text routers.now part.now) }
+    ensures { OnOk result (out.new.items ≡ out.old.items ++ (line_text (part_line routers.now part.now) ++ 10 ∷ [])) }
 {
     match part {
         Part::Host(host) => write_host(out, routers, host),
@@ -267,21 +205,23 @@ fn write_part(out: &mut Vec<u8>, routers: &[Router], part: &Part) -> Result<(), 
 }
 
 fn write_host(out: &mut Vec<u8>, routers: &[Router], host: &HostPart) -> Result<(), Memory>
-    ensures { OnOk result (out.new.items ≡ out.old.items ++ host_text routers.now host.now) }
+    ensures { OnOk result (out.new.items ≡ out.old.items ++ (line_text (part_line routers.now (Part.Host host.now)) ++ 10 ∷ [])) }
 {
-    let router = router_name(routers, host.router);
-    push_words(out, b"host", host.name.bytes(), router)?;
+    push_text(out, b"host")?;
+    push_word(out, host.name.bytes())?;
+    push_word(out, router_name(routers, host.router))?;
     push_word(out, guard_word(host.guarded))?;
     push_space(out)?;
-    write_eid(out, &host.key, &host.eid)
+    push_eid(out, &host.key, &host.eid)?;
+    push_text(out, b"\n")
 }
 
 fn write_link(out: &mut Vec<u8>, routers: &[Router], link: &LinkPart) -> Result<(), Memory>
-    ensures { OnOk result (out.new.items ≡ out.old.items ++ link_text routers.now link.now) }
+    ensures { OnOk result (out.new.items ≡ out.old.items ++ (line_text (part_line routers.now (Part.Link link.now)) ++ 10 ∷ [])) }
 {
-    let a = router_name(routers, link.a);
-    let b = router_name(routers, link.b);
-    push_words(out, b"link", a, b)?;
+    push_text(out, b"link")?;
+    push_word(out, router_name(routers, link.a))?;
+    push_word(out, router_name(routers, link.b))?;
     push_word(out, trust_word(link.a_trusts))?;
     push_word(out, trust_word(link.b_trusts))?;
     push_text(out, b"\n")

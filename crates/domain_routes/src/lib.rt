@@ -1,5 +1,26 @@
 //! The least routes of a graph of routers. A router's port towards a goal, a domain or one router, is the lowest
 //! port whose link is up and whose neighbour is one step nearer to the goal.
+//!
+//! ```rust
+//! use domain_routes::{Edge, Goal, Graph, Routes};
+//!
+//! // Router 0 of domain 0 and router 1 of domain 1, joined by one link.
+//! let link = Edge {
+//!     a: 0,
+//!     a_port: 2,
+//!     b: 1,
+//!     b_port: 5,
+//!     up: true,
+//! };
+//! let graph = Graph {
+//!     domains: Vec::from_slice(alloc, &[0, 1])?,
+//!     edges: Vec::from_slice(alloc, &[link])?,
+//! };
+//! // The graph is sound, as `is_sound` would say: its link joins two of its routers.
+//! let routes = Routes::compute(alloc, &graph)?;
+//! assert_eq!(rt; routes.port(0, Goal::Domain(1)), Some(2));
+//! assert_eq!(rt; routes.port(0, Goal::Domain(0)), None);
+//! ```
 #![tactic(auto)]
 
 ghost use Rattle.std.specs.Prelude.{◌≡◌, ◌↔◌, ℕ, List, IfOk, IfSome, IsNone, IsTrue};

@@ -1,11 +1,9 @@
 -- How opening a signer and signing end.
-use Rattle.std.specs.Prelude.{ℕ, ◌+◌, Bool, true, false, List, [], ◌∷◌, Result, Ok, Err}
-use Rattle.lease_disk.specs.Call.{Call, Write, Sync}
+use Rattle.std.specs.Prelude.{ℕ, Bool, true, false, List, Result, Ok, Err}
 use Rattle.lease_disk.specs.declared.disk.Disk.{Ghosts}
 use Rattle.leaf_lease.specs.declared.leases.Leases.{Leases}
 use Rattle.leaf_lease.specs.declared.opening.OpenEnd.{OpenEnd}
 use Rattle.leaf_lease.specs.Ends.{OpenSays, opened_disk, open_failed}
-use Rattle.leaf_lease.specs.LeaseFile.{head_size}
 use Rattle.lms_core.specs.Parameters.{levels_of}
 use Rattle.lms_core.specs.Tree.{Key, identifier_of}
 use Rattle.host_signer.specs.declared.signer.Signer.{Signer}
@@ -13,10 +11,6 @@ use Rattle.host_signer.specs.declared.signer.SignerEnd.{SignerEnd}
 use Rattle.host_signer.specs.declared.signer.SignEnd.{SignEnd}
 use Rattle.host_signer.specs.declared.signer.SignEnd.TheVariants as signing
 use Rattle.host_signer.specs.Signers.{disk_of, key_of}
-
--- the calls of a lease: the leaf's byte is written and made firm
-abbrev pub lease_calls : ℕ → List Call
-lease_calls leaf = Write (head_size + leaf) (1 ∷ []) ∷ Sync ∷ []
 
 module _ {D : Type 0} {G : Ghosts D} where
   -- how the leases of a signer were opened

@@ -1,11 +1,13 @@
 // Signing with a leaf that was leased.
-ghost use Rattle.std.specs.Prelude.{◌≡◌, ◌≢◌, ◌+◌, ◌≤◌, ℕ, List, [], ◌∷◌, length, Some, option_map};
+ghost use Rattle.std.specs.Prelude.{◌≡◌, ◌≢◌, ◌+◌, ◌<◌, ◌≤◌, ℕ, List, [], ◌∷◌, length, Some, option_map};
 ghost use Rattle.std.specs.Prelude.{Err, IfOk, OnOk, OnErr, IsTrue, not, ◌||◌, if◌then◌else◌};
 ghost use Rattle.std.specs.Option.{ForSome};
 ghost use Rattle.lease_disk.specs.Call.{Len, Read, Sync};
+ghost use Rattle.lease_disk.specs.Calls.{Ran};
+ghost use Rattle.lease_disk.specs.Causes.{HasCause};
 ghost use Rattle.lease_disk.specs.Images.{overwritten, AtEachMoment};
-ghost use Rattle.leaf_lease.specs.Calls.{Ran};
-ghost use Rattle.leaf_lease.specs.Kept.{AfterWrite, KeepsGone, KeepsByte, NoLongerThan, CountsFaults};
+ghost use Rattle.lease_disk.specs.Kept.{AfterWrite, KeepsByte, NoLongerThan};
+ghost use Rattle.leaf_lease.specs.Kept.{KeepsGone};
 ghost use Rattle.leaf_lease.specs.LeaseFile.{IsGone, file_size, head_size};
 ghost use Rattle.leaf_lease.specs.Leases as lease;
 ghost use Rattle.lms_core.specs.Parameters.{levels_of, leaves_of, signature_len_of};
@@ -66,7 +68,8 @@ fn blank(alloc: Global, tree: &Tree) -> Result<Vec<u8>, AllocError>
 impl<D: Disk> Signer<D> {
     ghost use Rattle.host_signer.specs.Signers.{disk_of, key_of, id_of, height_of, next_of};
     ghost use Rattle.host_signer.specs.Ends.{SignerSays, signer_disk, signer_key, signer_failed};
-    ghost use Rattle.host_signer.specs.Ends.{lease_calls, signed_disk, signed_key, sign_failed, is_memory, is_dry};
+    ghost use Rattle.leaf_lease.specs.Leases.{lease_calls};
+    ghost use Rattle.host_signer.specs.Ends.{signed_disk, signed_key, sign_failed, is_memory, is_dry};
 
     /// Opens the lease file of the key of a tree, after making firm what was written before. The leaf that signs next is
     /// one past the last that is gone, or 0. Where the file is not opened, the end tells why, as `leaf_lease::open` does,
@@ -74,13 +77,16 @@ impl<D: Disk> Signer<D> {
     pub fn open(disk: D, tree: Tree) -> Result<Signer<D>, SignerEnd<D>>
         // What it says of the file, where the disk tells what it reads.
         ensures says { ForSome (D.now disk) (λ file. SignerSays tree file result) }
+        // A leaf that is gone in the file lies below the next: no leaf signs twice.
+        ensures none_twice { IfOk result (λ signer. ForSome (D.now disk) (λ file. (leaf : ℕ)
+            → leaf < leaves_of tree.height → IsGone leaf file → leaf < next_of signer)) }
         ensures tree { signer_key result ≡ tree }
         ensures key { IfOk result (λ signer.
             (id_of signer ≡ identifier_of tree.seed) × (height_of signer ≡ levels_of tree.height)) }
         ensures content { D.now (signer_disk result) ≡ D.now disk }
         ensures firm { OnOk result ((image : List ℕ)
             → D.may_leave (signer_disk result) image → D.now (signer_disk result) ≡ Some image) }
-        ensures cause { CountsFaults (D.faults disk) (D.faults (signer_disk result)) (signer_failed result) }
+        ensures cause { HasCause (D.faults disk) (D.faults (signer_disk result)) (signer_failed result) }
 
         // Each image of each moment is one of those at the start, whatever the answer.
         ensures moments { AtEachMoment D.clock D.during disk (signer_disk result) (D.may_leave disk) }
@@ -131,7 +137,7 @@ impl<D: Disk> Signer<D> {
             → (next_of self ≡ leaves_of (key_of self).height) × (result ≡ Err (SignEnd.Dry self)) }
         ensures none_left { next_of self ≡ leaves_of (key_of self).height
             → IsTrue (is_dry result || is_memory result) }
-        ensures cause { CountsFaults (D.faults (disk_of self)) (D.faults (signed_disk result)) (sign_failed result) }
+        ensures cause { HasCause (D.faults (disk_of self)) (D.faults (signed_disk result)) (sign_failed result) }
 
         // In each image of each moment, whatever the answer: a leaf that was gone is gone, and all other bytes stay.
         ensures moments { AtEachMoment D.clock D.during (disk_of self) (signed_disk result)
@@ -192,8 +198,20 @@ impl<D: Disk> Signer<D> {
 }
 
 impl Signer<MemDisk> {
-    ghost use Rattle.lease_disk.specs.MemDisk.{reserved};
+    ghost use Rattle.lease_disk.specs.MemDisk.{reserved, stopped_at};
     ghost use Rattle.host_signer.specs.Signers.{disk_of, key_of, id_of, height_of, next_of};
+
+    /// Arms a stop of the disk at its write or sync of that number, counted from 1 from here on. A signing makes two: it
+    /// writes the leaf's byte, and syncs.
+    pub fn stop_at(&mut self, call: u8, fill: u8)
+        requires first { 1 ≤ call }
+        requires last { call ≤ 4 }
+        ensures disk { disk_of self.new ≡ stopped_at (disk_of self.old) call fill }
+        ensures same { (key_of self.new ≡ key_of self.old) × (id_of self.new ≡ id_of self.old)
+            × (height_of self.new ≡ height_of self.old) × (next_of self.new ≡ next_of self.old) }
+    {
+        self.leases.stop_at(call, fill);
+    }
 
     /// Makes place in the record of the disk for so many further entries, with so many bytes in all. Where memory is
     /// wanting, the disk stays as it was.

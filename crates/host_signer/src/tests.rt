@@ -179,6 +179,61 @@ fn a_call_that_fails_frees_no_leaf(rt: HostRuntime) -> Result<(), Fail> {
     Ok(())
 }
 
+// The disk and the tree after a signing that is stopped at its write or at its sync, and a restart.
+fn stopped_once(
+    alloc: Global,
+    disk: MemDisk,
+    tree: Tree,
+    at_sync: bool,
+    fill: u8,
+) -> Result<(MemDisk, Tree), AllocError> {
+    let mut signer = match Signer::open(disk, tree) {
+        Ok(signer) => signer,
+        Err(SignerEnd { tree, end }) => return Ok((disk_of(end), tree)),
+    };
+    signer.stop_at(if at_sync { 2 } else { 1 }, fill);
+    match signer.sign(alloc, b"stopped") {
+        Ok((signer, _, _)) => Ok(signer.close()),
+        Err(SignEnd::Failed { disk, tree }) => Ok((disk.restart(), tree)),
+        Err(SignEnd::Dry { signer }) => Ok(signer.close()),
+        Err(SignEnd::Memory { .. }) => Err(AllocError),
+    }
+}
+
+// A stop that leaves 0 leaves the leaf free, and then it signs once. Any other byte spends it.
+#[test]
+fn a_signer_stops_at_each_leaf(rt: HostRuntime) -> Result<(), Fail> {
+    let alloc = rt.alloc();
+    let mut tree = tree_of(alloc, 0x45)?;
+    let mut disk = formatted(MemDisk::new(alloc, 50, Vec::new(alloc))?, &tree);
+    disk.reserve(8, 4)?;
+    for leaf in 0..32 {
+        let fill = match leaf % 8 {
+            1 => 1,
+            3 => 165,
+            5 => 255,
+            _ => 0,
+        };
+        let (stopped, stopped_tree) = stopped_once(alloc, disk, tree, leaf % 4 > 1, fill)?;
+        assert_eq!(rt;
+            stopped.bytes().get(18 + leaf as usize).copied(),
+            Some(fill)
+        );
+        if fill == 0 {
+            let (signed, later, later_tree) = signed_once(alloc, stopped, stopped_tree)?;
+            assert_eq!(rt; signed, Some(leaf));
+            disk = later.restart();
+            tree = later_tree;
+        } else {
+            disk = stopped;
+            tree = stopped_tree;
+        }
+    }
+    let (signed, _, _) = signed_once(alloc, disk, tree)?;
+    assert_eq!(rt; signed, None);
+    Ok(())
+}
+
 #[test]
 fn a_file_that_is_not_the_keys_is_given_back(rt: HostRuntime) -> Result<(), Fail> {
     let alloc = rt.alloc();

@@ -5,17 +5,13 @@ use Rattle.std.proofs.lemmas.Bool.{cases_lt}
 use Rattle.std.proofs.lemmas.List.{ext_get_or, length-take, length-drop, length-replicate, get_or-take, get_or-drop, get_or_append_left, get_or-append_right, get_or-replicate, get_or_past}
 use Rattle.std.proofs.Math.Pow.{pow_mono}
 use Rattle.lease_disk.specs.Images.{overwritten, Torn}
+use Rattle.lease_disk.specs.Shows.{Shows}
 use Rattle.lease_disk.specs.PastLaws.{length-overwritten, overwritten_before, overwritten_after, overwritten_inside}
 use Rattle.leaf_lease.specs.LeaseFile.{IsGone, IsOpen, IsFirstFree, IsLeaseFile, kept_id}
-use Rattle.leaf_lease.specs.Judged.{Shows}
 
 -- a height of at most 10 has at most 1024 leaves
 pub pow_ten : (height : ℕ) → height ≤ 10 → 2 ^ height ≤ 1024
 pow_ten height low = pow_mono {i = height} {j = 10} low
-
--- no change is a write that a crash cut short
-pub torn_same : (at count : ℕ) (bytes : List ℕ) → Torn at count bytes bytes
-torn_same at count bytes = record { no_shorter = omega arith; no_longer = omega arith; outside = λ k there out. refl }
 
 -- files with the same head keep the same identifier
 pub kept_id_same : (file other : List ℕ) → 18 ≤ length file → 18 ≤ length other → ((k : ℕ) → k < 18 → get_or file k 0 ≡ get_or other k 0) → kept_id file ≡ kept_id other
@@ -84,27 +80,6 @@ leaf_gone (Some before) new next is image told =
     one_nonzero : ◌≡◌ {A = ℕ} 1 0 → ⊥
     one_nonzero e = omega arith
 
--- what was read into a buffer of zeros
-pub shows_of : (file old new : List ℕ) (count size : ℕ) → old ≡ take size (replicate {A = ℕ} 1042 0) → count ≡ min (length old) (length file) → new ≡ take count file ++ drop count old → Shows file new count
-shows_of file old new count size zeros read is =
-    let front = length-take count file in
-    let rest = length-drop count old in
-    let all = ap length is ∙ length-append (take count file) (drop count old) in
-    record {
-      read = omega (arith, all);
-      same = λ k below. ap (λ (l : List ℕ). get_or l k 0) is ∙ get_or_append_left (take count file) (drop count old) 0 k (omega arith) ∙ get_or-take count file k 0 below;
-      rest = λ k from. ap (λ (l : List ℕ). get_or l k 0) is ∙ get_or-append_right (take count file) (drop count old) count k 0 (omega arith) from ∙ get_or-drop count old (k - count) 0 ∙ ap (λ (l : List ℕ). get_or l (count + (k - count)) 0) zeros ∙ zero_at size (count + (k - count));
-    }
-  where
-    zero_at : (size k : ℕ) → get_or (take size (replicate {A = ℕ} 1042 0)) k 0 ≡ 0
-    zero_at size k = elim (cases_lt k (length (take size (replicate {A = ℕ} 1042 0)))) [
-      | inl below ↦
-          let cut = length-take size (replicate {A = ℕ} 1042 0) in
-          let whole = length-replicate {A = ℕ} 1042 0 in
-          get_or-take size (replicate 1042 0) k 0 (omega arith) ∙ get_or-replicate 1042 k 0 0 (omega arith)
-      | inr past ↦ get_or_past (take size (replicate 1042 0)) k 0 past
-    ]
-
 -- what the front of a file shows of its head
 module _ (file bytes : List ℕ) (count : ℕ) (shows : Shows file bytes count) (head : 18 ≤ count) where
   pub front_open : get_or bytes 0 0 ≡ 165 → IsOpen file
@@ -127,3 +102,10 @@ module _ (file bytes : List ℕ) (count : ℕ) (shows : Shows file bytes count) 
         free = λ later from below. sym (shows.same (18 + later) (omega arith)) ∙ sym (at later) ∙ free later from (omega arith);
         last_gone = λ last one zero. last_gone last one (at last ∙ shows.same (18 + last) (omega arith) ∙ zero);
       }
+
+-- a leaf that is gone lies below the first that is free
+pub gone_below : (id : List ℕ) (height next : ℕ) (file : List ℕ) → IsLeaseFile id height next file → (leaf : ℕ) → leaf < 2 ^ height → IsGone leaf file → leaf < next
+gone_below id height next file is leaf below gone = elim (cases_lt leaf next) [
+  | inl low ↦ low
+  | inr free ↦ absurd (gone.nonzero (is.first_free.free leaf free below))
+]

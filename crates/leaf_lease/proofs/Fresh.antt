@@ -3,6 +3,7 @@ use Rattle.std.proofs.Common.{◌≡◌, ◌≢◌, inl, inr, ℕ, suc, ◌+◌,
 use Rattle.std.specs.Prelude.{Option, Some, None, option_map, unwrap_or}
 use Rattle.std.proofs.lemmas.List.{ext_get_or, length-drop, get_or-drop, drop-drop, take_at}
 use Rattle.lease_disk.specs.Images.{overwritten, Torn}
+use Rattle.lease_disk.specs.Kept.{gated, WhileGated}
 use Rattle.lease_disk.specs.PastLaws.{length-overwritten}
 use Rattle.leaf_lease.specs.LeaseFile.{IsOpen, open_gate}
 use Rattle.leaf_lease.specs.Format.{WhileFilled}
@@ -33,10 +34,9 @@ drop-first file byte n =
     ∙ drop-drop n 1 file
 
 -- the same of what a disk tells
-pub fill_told : (old mid new : Option (List ℕ)) (rest : List ℕ) (gate : ℕ) → mid ≡ option_map (λ file. overwritten file 1 rest) old → new ≡ option_map (λ file. overwritten file 0 (gate ∷ [])) mid → new ≡ option_map (λ file. gate ∷ (rest ++ drop (1 + length rest) file)) old
-fill_told None mid new rest gate first second = second ∙ ap (option_map (λ file. overwritten file 0 (gate ∷ []))) first
-fill_told (Some file) mid new rest gate first second =
-    second ∙ ap (option_map (λ file. overwritten file 0 (gate ∷ []))) first ∙ ap (λ (l : List ℕ). Some l) (fresh-overwritten file rest gate)
+pub fill_told : (old new : Option (List ℕ)) (rest : List ℕ) (gate : ℕ) → new ≡ option_map (gated 0 gate rest) old → new ≡ option_map (λ file. gate ∷ (rest ++ drop (1 + length rest) file)) old
+fill_told None new rest gate is = is
+fill_told (Some file) new rest gate is = is ∙ ap (λ (l : List ℕ). Some l) (fresh-overwritten file rest gate)
 
 -- a torn write of the first byte changes no other
 torn_rest : (before image : List ℕ) → Torn 0 1 before image → 0 < length before → drop 1 image ≡ drop 1 before
@@ -48,21 +48,12 @@ torn_rest before image torn some =
     ∙ torn.outside (1 + k) (omega (arith, torn.no_shorter, torn.no_longer)) (inr (omega arith))
     ∙ sym (get_or-drop 1 before k 0))
 
--- while the gate is written all past it stands
-pub gate_torn : (old mid : Option (List ℕ)) (rest before image : List ℕ) → mid ≡ option_map (λ file. overwritten file 1 rest) old → mid ≡ Some before → Torn 0 1 before image → (file : List ℕ) × (old ≡ Some file) × (0 < length image) × (drop 1 image ≡ rest ++ drop (1 + length rest) file)
-gate_torn None mid rest before image is told torn = absurd (none_some (sym is ∙ told))
-  where
-    none_some : {file : List ℕ} → ◌≡◌ {A = Option (List ℕ)} None (Some file) → ⊥
-    none_some e = cc
-gate_torn (Some file) mid rest before image is told torn =
-    let same : overwritten file 1 rest ≡ before = ap (λ o. unwrap_or o []) (sym is ∙ told) in
-    let long = ap length same in
-    let size = length-overwritten file 1 rest in (
-      file,
-      refl,
-      omega (arith, torn.no_shorter),
-      torn_rest before image torn (omega arith) ∙ ap (drop 1) (sym same) ∙ rest-overwritten file rest,
-    )
+-- an image of a gated write at the first byte is one while the file is filled
+pub filled_of : (images : List ℕ → Type 0) (content : Option (List ℕ)) (rest image : List ℕ) → WhileGated images content 0 rest image → WhileFilled images content rest image
+filled_of images content rest image (inl after) = inl after
+filled_of images content rest image (inr whole) =
+    let size = length-overwritten whole.0 1 rest in
+    inr (whole.0, whole.1, omega (arith, whole.2.no_shorter), torn_rest (overwritten whole.0 1 rest) image whole.2 (omega arith) ∙ rest-overwritten whole.0 rest)
 
 -- a file whose rest is fresh, and whose gate is open, is fresh
 pub fresh_open : (image rest tail : List ℕ) → 0 < length image → drop 1 image ≡ rest ++ tail → IsOpen image → take (1 + length rest) image ≡ open_gate ∷ rest

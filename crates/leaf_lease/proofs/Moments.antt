@@ -4,23 +4,12 @@ use Rattle.std.specs.Prelude.{Option, Some, None, option_map, unwrap_or, IsSome,
 use Rattle.std.proofs.lemmas.Bool.{cases_lt}
 use Rattle.std.proofs.lemmas.Bool.Decides.{nat_tests}
 use Rattle.std.proofs.lemmas.List.{take-replicate, take_at}
-use Rattle.lease_disk.specs.Call.{Call}
 use Rattle.lease_disk.specs.Images.{overwritten, AtEachMoment}
+use Rattle.lease_disk.specs.Kept.{AfterWrite}
 use Rattle.lease_disk.specs.Moments.{at_start, joined, weakened}
-use Rattle.leaf_lease.specs.Calls.{Ran}
-use Rattle.leaf_lease.specs.Kept.{AfterWrite}
 use Rattle.leaf_lease.specs.LeaseFile.{IsOpen, file_size, open_gate, fresh_rest, fresh_file, is_open, needs_shut}
 use Rattle.leaf_lease.specs.Format.{formatted, WhileFilled, IsClosedBy, IsFresh}
 use Rattle.leaf_lease.proofs.Fresh.{first-overwritten, drop-first, filled_length, short_shut, closed_stays, fresh_open}
-
--- calls that follow calls that were all served
-pub ran_then : {D : Type 0} (led : D → Call → Bool → D → Type 0) (old mid new : D) (calls more : List Call) (served : Bool) → Ran led old calls true mid → Ran led mid more served new → Ran led old (calls ++ more) served new
-ran_then led old mid new [] more served first second = subst (λ d. Ran led d more served new) (sym first.1) second
-ran_then led old mid new (call ∷ calls) more served (inl failed) second = absurd (true_false failed.0)
-  where
-    true_false : true ≡ false → ⊥
-    true_false e = cc
-ran_then led old mid new (call ∷ calls) more served (inr ran) second = inr (ran.0, ran.1, ran_then led ran.0 mid new calls more served ran.2 second)
 
 -- what follows on Ok
 pub on_ok_then : {T E : Type 0} (result : Result T E) (P Q : Type 0) → OnOk result P → (P → Q) → OnOk result Q
@@ -37,9 +26,6 @@ told_bytes None told = absurd (false_true told)
 
 pub some_same : (a b : List ℕ) → ◌≡◌ {A = Option (List ℕ)} (Some a) (Some b) → a ≡ b
 some_same a b is = ap (λ o. unwrap_or o a) is
-
-pub zeros_of : (old : List ℕ) (n size : ℕ) → old ≡ take n (replicate {A = ℕ} 1042 0) → n ≡ size → size ≤ 1042 → old ≡ replicate size 0
-zeros_of old n size is same fits = is ∙ take-replicate n 1042 0 (omega arith) ∙ ap (λ k. replicate k 0) same
 
 bool_cases : (b : Bool) → (b ≡ true) ⊎ (b ≡ false)
 bool_cases true = inl refl

@@ -1,9 +1,10 @@
 -- How formatting ends, and the calls that it makes.
 use Rattle.std.specs.Prelude.{◌≡◌, ◌≢◌, ◌⊎◌, ℕ, ◌+◌, ◌<◌, Bool, true, false, if◌then◌else◌, List, [], ◌∷◌, ◌++◌, length, drop, take, slice_index, Option, Some, Result, Ok, Err}
-use Rattle.lease_disk.specs.Call.{Call, Len, Read, Write, Sync}
+use Rattle.lease_disk.specs.Call.{Call, Len, Read}
+use Rattle.lease_disk.specs.Calls.{firm_calls, gated_calls}
+use Rattle.lease_disk.specs.Kept.{AfterWrite}
 use Rattle.leaf_lease.specs.declared.formatting.FormatEnd.{FormatEnd}
 use Rattle.leaf_lease.specs.declared.formatting.FormatEnd.TheVariants.{Already, Failed}
-use Rattle.leaf_lease.specs.Kept.{AfterWrite}
 use Rattle.leaf_lease.specs.LeaseFile.{IsOpen, kept_id, kept_height, file_size, head_size, open_gate, is_open, needs_shut, fresh_rest, fresh_file}
 
 -- the disk, which every answer gives back
@@ -31,11 +32,11 @@ formatted id height file = fresh_file id height ++ drop (file_size height) file
 
 -- the calls that close the gate
 abbrev pub shut_calls : Bool → List Call
-shut_calls shut = if shut then Write 0 (0 ∷ []) ∷ Sync ∷ [] else []
+shut_calls shut = if shut then firm_calls 0 (0 ∷ []) else []
 
 -- the calls that write what stands past the gate, and then open it
 abbrev pub fill_calls : List ℕ → List Call
-fill_calls rest = Write 1 rest ∷ Sync ∷ Write 0 (open_gate ∷ []) ∷ Sync ∷ []
+fill_calls rest = gated_calls 0 open_gate rest
 
 -- the calls of a whole format
 abbrev pub format_calls : List ℕ → ℕ → List ℕ → List Call

@@ -1,16 +1,10 @@
 -- What the front of a file says of it.
-use Rattle.std.specs.Prelude.{◌≡◌, ◌⊎◌, ℕ, ◌^◌, ◌<◌, ◌≤◌, min, List, length, slice_index}
+use Rattle.std.specs.Prelude.{◌≡◌, ◌⊎◌, ℕ, ◌^◌, ◌<◌, ◌≤◌, List, length, slice_index}
 use Rattle.leaf_lease.specs.declared.judging.Judgement.{Judgement}
 use Rattle.leaf_lease.specs.declared.judging.Judgement.TheVariants as judged
 use Rattle.leaf_lease.specs.declared.judging.Front.{Front}
 use Rattle.leaf_lease.specs.declared.judging.Front.TheVariants as front
 use Rattle.leaf_lease.specs.LeaseFile.{IsOpen, HasKey, IsLeaseFile, kept_id, kept_height, file_size, needs_shut}
-
--- so many bytes of the file were read into a buffer of zeros, up to the end of either
-pub record Shows (file bytes : List ℕ) (count : ℕ) : Type 0 where
-  pub read : count ≡ min (length bytes) (length file)
-  pub same : (k : ℕ) → k < count → slice_index bytes k ≡ slice_index file k
-  pub rest : (k : ℕ) → count ≤ k → slice_index bytes k ≡ 0
 
 -- the first of these that applies: a closed gate or a short head, another key, a byte that lacks for some leaf
 abbrev pub JudgeSays : List ℕ → ℕ → List ℕ → Judgement → Type 0

@@ -1,10 +1,13 @@
 -- What callers see of leases.
-use Rattle.std.specs.Prelude.{ℕ, Bool, true, false, List, Result, Ok, Err}
+use Rattle.std.specs.Prelude.{ℕ, ◌+◌, Bool, true, false, List, [], ◌∷◌, Result, Ok, Err}
+use Rattle.lease_disk.specs.Call.{Call}
+use Rattle.lease_disk.specs.Calls.{firm_calls}
 use Rattle.lease_disk.specs.declared.disk.Disk.{Ghosts}
 use Rattle.leaf_lease.specs.declared.leases.Leases.{Leases}
 use Rattle.leaf_lease.specs.declared.leases.LeafLease.{LeafLease}
 use Rattle.leaf_lease.specs.declared.leases.LeaseEnd.{LeaseEnd}
 use Rattle.leaf_lease.specs.declared.leases.LeaseEnd.TheVariants.{Dry, Failed}
+use Rattle.leaf_lease.specs.LeaseFile.{head_size}
 
 -- the leaf that a lease is for
 abbrev pub leased_leaf : LeafLease → ℕ
@@ -13,6 +16,10 @@ leased_leaf lease = lease.leaf
 -- the identifier of the key that a lease is for
 abbrev pub leased_id : LeafLease → List ℕ
 leased_id lease = lease.id
+
+-- the calls of a lease: the leaf's byte is written and made firm
+abbrev pub lease_calls : ℕ → List Call
+lease_calls leaf = firm_calls (head_size + leaf) (1 ∷ [])
 
 module _ {D : Type 0} {G : Ghosts D} where
   -- the disk that the leaves are leased on

@@ -1,7 +1,7 @@
-pub mod Calls
 pub mod Ends
 pub mod Format
 pub mod Judged
 pub mod Kept
 pub mod LeaseFile
 pub mod Leases
+pub mod Stops

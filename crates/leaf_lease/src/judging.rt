@@ -1,7 +1,8 @@
 // What the front of a lease file says of it.
 ghost use Rattle.std.specs.Prelude.{◌≡◌, ◌≤◌, ◌↔◌, ℕ, List, IsTrue, ◌||◌, ◌==◌, length};
 ghost use Rattle.leaf_lease.specs.LeaseFile.{file_size, open_gate};
-ghost use Rattle.leaf_lease.specs.Judged.{Shows, JudgeSays, IsWithin, FrontSays};
+ghost use Rattle.lease_disk.specs.Shows.{Shows};
+ghost use Rattle.leaf_lease.specs.Judged.{JudgeSays, IsWithin, FrontSays};
 
 use crate::layout::{HEAD, OPEN, first_free, id_in};
 

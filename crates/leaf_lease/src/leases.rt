@@ -2,15 +2,15 @@
 ghost use Rattle.std.specs.Prelude.{◌≡◌, ◌+◌, ◌^◌, ◌≤◌, ◌↔◌, ◌≢◌, [], ◌∷◌, ℕ, List, Some, Err, true, not, length, option_map, IfOk, OnOk, OnErr, if◌then◌else◌, IsTrue};
 ghost use Rattle.std.specs.Option.{ForSome};
 ghost use Rattle.std.proofs.Props.{props};
-ghost use Rattle.lease_disk.specs.Call.{Write, Sync};
+ghost use Rattle.lease_disk.specs.Calls.{Ran};
+ghost use Rattle.lease_disk.specs.Causes.{HasCause};
 ghost use Rattle.lease_disk.specs.Images.{overwritten, AtEachMoment};
-ghost use Rattle.leaf_lease.specs.Calls.{Ran};
-ghost use Rattle.leaf_lease.specs.Kept.{AfterWrite, KeepsGone, KeepsByte, NoLongerThan, CountsFaults};
+ghost use Rattle.lease_disk.specs.Kept.{AfterWrite, KeepsByte, NoLongerThan};
+ghost use Rattle.leaf_lease.specs.Kept.{KeepsGone};
 ghost use Rattle.leaf_lease.specs.LeaseFile.{IsLeaseFile, IsGone};
 
 use crate::layout::{HEAD, leaf_count};
-use crate::steps::write_firm;
-use lease_disk::{Disk, MemDisk};
+use lease_disk::{Disk, MemDisk, write_firm};
 use std::alloc::AllocError;
 
 /// The right to sign once with one leaf. It cannot be copied, and it must be spent or wasted.
@@ -44,7 +44,8 @@ impl LeafLease {
         leaf
     }
 
-    /// Uses the lease up for nothing. Its leaf is gone.
+    /// Uses the lease up for nothing. Its leaf was gone on the disk before the lease was handed out and stays so, and
+    /// there is nothing else that this could change or tell: so it ensures nothing.
     pub fn waste(self) {
         let LeafLease { id: _, leaf: _ } = self;
     }
@@ -72,7 +73,7 @@ pub enum LeaseEnd<D: Disk> {
 }
 
 impl<D: Disk> Leases<D> {
-    ghost use Rattle.leaf_lease.specs.Leases.{leased_leaf, leased_id, disk_of, id_of, height_of, next_of, leased_disk, lease_failed, is_dry};
+    ghost use Rattle.leaf_lease.specs.Leases.{leased_leaf, leased_id, disk_of, id_of, height_of, next_of, leased_disk, lease_failed, is_dry, lease_calls};
 
     /// The next leaf to be handed out.
     pub fn next(&self) -> u32
@@ -107,7 +108,7 @@ impl<D: Disk> Leases<D> {
         // No leaf is left exactly where the next is past the last, and then nothing changes.
         ensures dry { IsTrue (is_dry result) ↔ (next_of self ≡ 2 ^ height_of self) }
         ensures untouched { IsTrue (is_dry result) → result ≡ Err (LeaseEnd.Dry self) }
-        ensures cause { CountsFaults (D.faults (disk_of self)) (D.faults (leased_disk result)) (lease_failed result) }
+        ensures cause { HasCause (D.faults (disk_of self)) (D.faults (leased_disk result)) (lease_failed result) }
 
         // In each image of each moment, whatever the answer: a leaf that was gone is gone, and all other bytes stay.
         ensures moments { AtEachMoment D.clock D.during (disk_of self) (leased_disk result)
@@ -120,7 +121,7 @@ impl<D: Disk> Leases<D> {
 
         // It writes the leaf's byte and syncs.
         ensures calls { Ran D.led (disk_of self)
-            (if is_dry result then [] else Write (18 + next_of self) (1 ∷ []) ∷ Sync ∷ []) (not (lease_failed result)) (leased_disk result) }
+            (if is_dry result then [] else lease_calls (next_of self)) (not (lease_failed result)) (leased_disk result) }
     {
         if self.next == leaf_count(self.height) {
             return Err(LeaseEnd::Dry { leases: self });
@@ -147,10 +148,22 @@ impl<D: Disk> Leases<D> {
 }
 
 impl Leases<MemDisk> {
-    ghost use Rattle.lease_disk.specs.MemDisk.{reserved};
+    ghost use Rattle.lease_disk.specs.MemDisk.{reserved, stopped_at};
     ghost use Rattle.leaf_lease.specs.Leases.{disk_of, id_of, height_of, next_of};
 
-    /// Makes place in the record of the disk for so many further entries, with so many bytes in all.
+    /// Arms a stop of the disk at its write or sync of that number, counted from 1 from here on. A lease makes two: it
+    /// writes the leaf's byte, and syncs.
+    pub fn stop_at(&mut self, call: u8, fill: u8)
+        requires first { 1 ≤ call }
+        requires last { call ≤ 4 }
+        ensures disk { disk_of self.new ≡ stopped_at (disk_of self.old) call fill }
+        ensures same { (id_of self.new ≡ id_of self.old) × (height_of self.new ≡ height_of self.old) × (next_of self.new ≡ next_of self.old) }
+    {
+        self.disk.stop_at(call, fill);
+    }
+
+    /// Makes place in the record of the disk for so many further entries, with so many bytes in all. Where memory is
+    /// wanting, the disk stays as it was.
     pub fn reserve(&mut self, calls: usize, bytes: usize) -> Result<(), AllocError>
         ensures ok { OnOk result (disk_of self.new ≡ reserved (disk_of self.old) calls bytes) }
         ensures err { OnErr result (disk_of self.new ≡ disk_of self.old) }

@@ -9,7 +9,6 @@ mod judging;
 mod layout;
 mod leases;
 mod opening;
-mod steps;
 
 pub use formatting::{FormatEnd, format};
 pub use leases::{LeafLease, LeaseEnd, Leases};

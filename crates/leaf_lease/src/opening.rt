@@ -1,19 +1,20 @@
 // Opening a lease file.
-ghost use Rattle.std.specs.Prelude.{◌≡◌, ◌⊎◌, ◌+◌, ◌≤◌, [], ◌∷◌, ℕ, List, Some, not, IfOk, OnOk};
+ghost use Rattle.std.specs.Prelude.{◌≡◌, ◌⊎◌, ◌+◌, ◌^◌, ◌<◌, ◌≤◌, [], ◌∷◌, ℕ, List, Some, not, IfOk, OnOk};
 ghost use Rattle.std.specs.Option.{ForSome};
 ghost use Rattle.lease_disk.specs.Call.{Len, Read, Sync};
+ghost use Rattle.lease_disk.specs.Calls.{Ran};
+ghost use Rattle.lease_disk.specs.Causes.{HasCause};
 ghost use Rattle.lease_disk.specs.Images.{AtEachMoment};
-ghost use Rattle.leaf_lease.specs.Calls.{Ran};
 ghost use Rattle.leaf_lease.specs.Ends.{OpenSays, opened_disk, open_failed};
-ghost use Rattle.leaf_lease.specs.Kept.{KeepsGone, KeepsByte, NoLongerThan, CountsFaults};
-ghost use Rattle.leaf_lease.specs.Leases.{id_of, height_of};
-ghost use Rattle.leaf_lease.specs.LeaseFile.{file_size};
+ghost use Rattle.lease_disk.specs.Kept.{KeepsByte, NoLongerThan};
+ghost use Rattle.leaf_lease.specs.Kept.{KeepsGone};
+ghost use Rattle.leaf_lease.specs.Leases.{id_of, height_of, next_of};
+ghost use Rattle.leaf_lease.specs.LeaseFile.{IsGone, file_size};
 
 use crate::judging::{Judgement, judged};
 use crate::layout::{HEAD, LARGEST, leaf_count};
 use crate::leases::Leases;
-use crate::steps::inspect_firm;
-use lease_disk::Disk;
+use lease_disk::{Disk, inspect_firm};
 
 /// Why a lease file was not opened. The first that applies is told.
 #[derive(Drop)]
@@ -34,10 +35,12 @@ pub fn open<D: Disk>(disk: D, id: [u8; 16], height: u8) -> Result<Leases<D>, Ope
 
     // What it says of the file, where the disk tells what it reads.
     ensures says { ForSome (D.now disk) (λ file. OpenSays id height file result) }
+    // A leaf that is gone in the file lies below the next: no leaf is handed out twice.
+    ensures none_twice { IfOk result (λ leases. ForSome (D.now disk) (λ file. (leaf : ℕ) → leaf < 2 ^ height → IsGone leaf file → leaf < next_of leases)) }
     ensures key { IfOk result (λ leases. (id_of leases ≡ id) × (height_of leases ≡ height)) }
     ensures content { D.now (opened_disk result) ≡ D.now disk }
     ensures firm { OnOk result ((image : List ℕ) → D.may_leave (opened_disk result) image → D.now (opened_disk result) ≡ Some image) }
-    ensures cause { CountsFaults (D.faults disk) (D.faults (opened_disk result)) (open_failed result) }
+    ensures cause { HasCause (D.faults disk) (D.faults (opened_disk result)) (open_failed result) }
 
     // Each image of each moment is one of those at the start, whatever the answer.
     ensures moments { AtEachMoment D.clock D.during disk (opened_disk result) (D.may_leave disk) }

@@ -1,5 +1,6 @@
 use super::*;
 use lease_disk::{Disk, FileDisk, MemDisk};
+use std::alloc::{AllocError, Global};
 use std::fs;
 use std::test::Fail;
 
@@ -70,6 +71,47 @@ fn a_call_that_fails_frees_no_leaf(rt: HostRuntime) -> Result<(), Fail> {
             disk = later;
         }
         assert!(rt; gone > 0, "leaves are leased though call {call} fails");
+    }
+    Ok(())
+}
+
+// The leases of a fresh file on a disk in memory, once the first leaf is gone.
+fn once_leased(alloc: Global) -> Result<Option<Leases<MemDisk>>, AllocError> {
+    let mut disk = MemDisk::new(alloc, 50, Vec::new(alloc))?;
+    disk.reserve(10, 54)?;
+    let leases = match open(after_format(disk), ID, 5) {
+        Ok(leases) => leases,
+        Err(_) => return Ok(None),
+    };
+    match leases.lease() {
+        Ok((leases, lease)) => {
+            lease.waste();
+            Ok(Some(leases))
+        }
+        Err(_) => Ok(None),
+    }
+}
+
+#[test]
+fn a_stop_leaves_its_byte(rt: HostRuntime) -> Result<(), Fail> {
+    let alloc = rt.alloc();
+    for fill in [0, 1, 165, 255] {
+        for call in 1..3 {
+            let mut leases = once_leased(alloc)?.ok_or("no leaf is leased")?;
+            leases.stop_at(call, fill);
+            match leases.lease() {
+                Err(LeaseEnd::Failed { disk }) => {
+                    let disk = disk.restart();
+                    assert_eq!(rt; disk.bytes().get(18).copied(), Some(1));
+                    assert_eq!(rt; disk.bytes().get(19).copied(), Some(fill));
+                    assert_eq!(rt; disk.bytes().len(), 50);
+                    let (_, next, given) = after_lease(disk);
+                    assert_eq!(rt; next, Some(if fill == 0 { 1 } else { 2 }));
+                    assert_eq!(rt; given, next);
+                }
+                _ => panic!(rt; "the lease is stopped"),
+            }
+        }
     }
     Ok(())
 }

@@ -1,4 +1,6 @@
 mod Bytes
+mod Changes
+mod Gated
 mod Kept
 mod Model
-mod Steps
+mod Restart

@@ -6,9 +6,10 @@ use Rattle.lease_disk.specs.Call.{Call, Len, Write, Sync}
 use Rattle.lease_disk.specs.Causes.{HasCause}
 use Rattle.lease_disk.specs.Images.{overwritten, Torn, ComesFrom}
 use Rattle.lease_disk.specs.PastLaws.{length-overwritten, overwritten_before, overwritten_after}
-use Rattle.lease_disk.specs.Past.{Wrote, Synced, content_of, is_pending, IsImage}
-use Rattle.lease_disk.specs.MemDisk.{DiskState, risen, is_listed, is_entered, fails, past_after, Leads, told_of, MayLeave}
-use Rattle.lease_disk.proofs.Steps.{torn_images, synced_only, firm_only, synced_from}
+use Rattle.lease_disk.specs.Past.{Entry, Wrote, Synced, content_of, is_pending, IsImage}
+use Rattle.lease_disk.specs.MemDisk.{DiskState, risen, refuses_changes, is_entered, fails, past_after, Leads, told_of, MayLeave}
+use Rattle.lease_disk.specs.PastLaws.{still_content}
+use Rattle.lease_disk.proofs.Changes.{torn_images, synced_from}
 
 rises : (n : ℕ) → min (n + 1) (2 ^ 64 - 1) ≤ risen n
 rises n = grind (arith, nat_tests)
@@ -25,46 +26,48 @@ refused_fails true is = refl
 refused_fails false is = is
 
 -- a call fails only where it counts a fault
-pub cause_of : {T : Type 0} (old new : DiskState) (call : Call) (result : Result T Failed) → Leads old call (is_ok result) new → HasCause old.faults new.faults result
+pub cause_of : {T : Type 0} (old new : DiskState) (call : Call) (result : Result T Failed) → Leads old call (is_ok result) new → HasCause old.faults new.faults (is_err result)
 cause_of old new call (Ok value) leads =
     let served = served_fails (fails old call) leads.answer in
     let same : new.faults ≡ old.faults = ap (λ (d : DiskState). d.faults) leads.disk ∙ ap (λ b. if b then risen old.faults else old.faults) served in
-    record { later = omega (arith, same); failed = λ err. absurd (false_true err); served = λ ok. same }
-  where
-    false_true : false ≡ true → ⊥
-    false_true e = cc
+    record { later = omega (arith, same); rose = λ err. absurd (cc err); stayed = λ ok. same }
 cause_of old new call (Err error) leads =
     let refused = refused_fails (fails old call) leads.answer in
     let rose : new.faults ≡ risen old.faults = ap (λ (d : DiskState). d.faults) leads.disk ∙ ap (λ b. if b then risen old.faults else old.faults) refused in
     record {
       later = omega (arith, rose, rises_from old.faults);
-      failed = λ err. omega (arith, rose, rises old.faults);
-      served = λ ok. absurd (false_true ok);
+      rose = λ err. omega (arith, rose, rises old.faults);
+      stayed = λ ok. absurd (cc ok);
     }
-  where
-    false_true : false ≡ true → ⊥
-    false_true e = cc
 
 -- a write makes its entry or none
-write_past : (old : DiskState) (at : ℕ) (bytes : List ℕ) → (past_after old (Write at bytes) ≡ old.past) ⊎ (past_after old (Write at bytes) ≡ Wrote at bytes (not (is_listed old)) ∷ old.past)
-write_past old at bytes = elim (is_entered old at bytes) as (λ b. ((if b then Wrote at bytes (not (is_listed old)) ∷ old.past else old.past) ≡ old.past) ⊎ ((if b then Wrote at bytes (not (is_listed old)) ∷ old.past else old.past) ≡ Wrote at bytes (not (is_listed old)) ∷ old.past)) [
+write_past : (old : DiskState) (at : ℕ) (bytes : List ℕ) → (past_after old (Write at bytes) ≡ old.past) ⊎ (past_after old (Write at bytes) ≡ Wrote at bytes (not (refuses_changes old)) ∷ old.past)
+write_past old at bytes = elim (is_entered old at bytes) as (λ b. ((if b then Wrote at bytes (not (refuses_changes old)) ∷ old.past else old.past) ≡ old.past) ⊎ ((if b then Wrote at bytes (not (refuses_changes old)) ∷ old.past else old.past) ≡ Wrote at bytes (not (refuses_changes old)) ∷ old.past)) [
   | true ↦ inr refl
   | false ↦ inl refl
 ]
+
+-- an image of the new disk, by the old base
+at_old : (old new : DiskState) (past : List Entry) → new.base ≡ old.base → new.past ≡ past → (image : List ℕ) → MayLeave new image → IsImage old.base past image
+at_old old new past base is image left = subst (λ b. IsImage b past image) base (subst (λ p. IsImage new.base p image) is left)
 
 -- what a crash leaves after a write
 pub write_crash : (old new : DiskState) (at : ℕ) (bytes : List ℕ) (served : Bool) → Leads old (Write at bytes) served new → ComesFrom (Torn at (length bytes)) (MayLeave old) (MayLeave new)
 write_crash old new at bytes served leads =
     let is : new.past ≡ past_after old (Write at bytes) = ap (λ (d : DiskState). d.past) leads.disk in
+    let same_base : new.base ≡ old.base = ap (λ (d : DiskState). d.base) leads.disk in
     elim (write_past old at bytes) [
-      | inl same ↦ λ image left. (image, subst (λ p. IsImage p image) (is ∙ same) left, record { no_shorter = omega arith; no_longer = omega arith; outside = λ k there out. refl })
-      | inr entered ↦ λ image left. torn_images old.past at bytes (not (is_listed old)) image (subst (λ p. IsImage p image) (is ∙ entered) left)
+      | inl same ↦ λ image left. (image, at_old old new old.past same_base (is ∙ same) image left, record { no_shorter = omega arith; no_longer = omega arith; outside = λ k there out. refl })
+      | inr entered ↦ λ image left. torn_images old.base old.past at bytes (not (refuses_changes old)) image (at_old old new (Wrote at bytes (not (refuses_changes old)) ∷ old.past) same_base (is ∙ entered) image left)
     ]
 
 -- what a sync of the record gives
 module _ (old new : DiskState) (served : Bool) (leads : Leads old Sync served new) where
   past_is : new.past ≡ past_after old Sync
   past_is = ap (λ (d : DiskState). d.past) leads.disk
+
+  base_is : new.base ≡ old.base
+  base_is = ap (λ (d : DiskState). d.base) leads.disk
 
   sync_past : (new.past ≡ old.past) ⊎ (new.past ≡ Synced ∷ old.past)
   sync_past = elim (is_pending old.past && not (fails old Sync)) as (λ b. (new.past ≡ (if b then Synced ∷ old.past else old.past)) → (new.past ≡ old.past) ⊎ (new.past ≡ Synced ∷ old.past)) [
@@ -75,8 +78,8 @@ module _ (old new : DiskState) (served : Bool) (leads : Leads old Sync served ne
   -- a sync adds no image
   pub sync_crash : (image : List ℕ) → MayLeave new image → MayLeave old image
   sync_crash image left = elim sync_past [
-    | inl same ↦ subst (λ p. IsImage p image) same left
-    | inr synced ↦ synced_from old.past image (subst (λ p. IsImage p image) synced left)
+    | inl same ↦ at_old old new old.past base_is same image left
+    | inr synced ↦ synced_from old.base old.past image (at_old old new (Synced ∷ old.past) base_is synced image left)
   ]
 
   -- once it was served, a crash leaves what is read
@@ -88,13 +91,13 @@ module _ (old new : DiskState) (served : Bool) (leads : Leads old Sync served ne
         | false ↦ λ is. inl refl
       ] past_is
 
-  content_is : content_of new.past ≡ content_of old.past
-  content_is = elim sync_past [ inl same ↦ ap content_of same | inr synced ↦ ap content_of synced ]
+  content_is : content_of new.base new.past ≡ content_of old.base old.past
+  content_is = ap (λ b. content_of b new.past) base_is ∙ elim sync_past [ inl same ↦ ap (content_of old.base) same | inr synced ↦ ap (content_of old.base) synced ]
 
   pub sync_firm : served ≡ true → (image : List ℕ) → MayLeave new image → told_of new ≡ Some image
   sync_firm ok image left = elim (firm_past ok) [
-    | inl none ↦ ap (λ (l : List ℕ). Some l) (content_is ∙ firm_only old.past none image (sync_crash image left))
-    | inr synced ↦ ap (λ (l : List ℕ). Some l) (content_is ∙ synced_only old.past image (subst (λ p. IsImage p image) synced left))
+    | inl none ↦ ap (λ (l : List ℕ). Some l) (content_is ∙ still_content old.base old.past none image (sync_crash image left))
+    | inr synced ↦ ap (λ (l : List ℕ). Some l) (content_is ∙ still_content old.base (Synced ∷ old.past) refl image (at_old old new (Synced ∷ old.past) base_is synced image left))
   ]
 
   pub sync_content : told_of new ≡ told_of old
@@ -111,7 +114,7 @@ module _ (old new : DiskState) (served : Bool) (leads : Leads old Sync served ne
       and_false false b is = refl
 
 -- a call that could not look failed
-pub looked : {T : Type 0} (old new : DiskState) (result : Result (Unit {0}) Failed) (error : Failed) (answer : Result T Failed) → Leads old Len (is_ok result) new → result ≡ Err error → is_err answer ≡ true → HasCause old.faults new.faults answer
+pub looked : {T : Type 0} (old new : DiskState) (result : Result (Unit {0}) Failed) (error : Failed) (answer : Result T Failed) → Leads old Len (is_ok result) new → result ≡ Err error → is_err answer ≡ true → HasCause old.faults new.faults (is_err answer)
 looked old new result error answer leads was is =
     let refused : is_ok result ≡ is_ok answer = ap is_ok was ∙ sym (not_ok answer is) in
     cause_of old new Len answer (record { answer = sym refused ∙ leads.answer; disk = leads.disk })
@@ -142,10 +145,12 @@ over_torn true old at bytes =
 over_torn false old at bytes = same_torn at (length bytes) old
 
 -- what a write leaves to be read
-pub write_torn : (old new : DiskState) (at : ℕ) (bytes : List ℕ) (served : Bool) → Leads old (Write at bytes) served new → Torn at (length bytes) (content_of old.past) (content_of new.past)
+pub write_torn : (old new : DiskState) (at : ℕ) (bytes : List ℕ) (served : Bool) → Leads old (Write at bytes) served new → Torn at (length bytes) (content_of old.base old.past) (content_of new.base new.past)
 write_torn old new at bytes served leads =
     let is : new.past ≡ past_after old (Write at bytes) = ap (λ (d : DiskState). d.past) leads.disk in
-    elim (write_past old at bytes) [
-      | inl same ↦ subst (λ p. Torn at (length bytes) (content_of old.past) (content_of p)) (sym (is ∙ same)) (same_torn at (length bytes) (content_of old.past))
-      | inr entered ↦ subst (λ p. Torn at (length bytes) (content_of old.past) (content_of p)) (sym (is ∙ entered)) (over_torn (not (is_listed old)) (content_of old.past) at bytes)
-    ]
+    let same_base : new.base ≡ old.base = ap (λ (d : DiskState). d.base) leads.disk in
+    let content = content_of old.base old.past in
+    subst (λ b. Torn at (length bytes) content (content_of b new.past)) (sym same_base) (elim (write_past old at bytes) [
+      | inl same ↦ subst (λ p. Torn at (length bytes) content (content_of old.base p)) (sym (is ∙ same)) (same_torn at (length bytes) content)
+      | inr entered ↦ subst (λ p. Torn at (length bytes) content (content_of old.base p)) (sym (is ∙ entered)) (over_torn (not (refuses_changes old)) content at bytes)
+    ])

@@ -1,13 +1,12 @@
 -- When a count of faults rises, and what a rise goes with.
-use Rattle.std.specs.Prelude.{◌≡◌, ℕ, ◌+◌, ◌-◌, ◌^◌, ◌≤◌, min, Result, IsOk, IsErr}
-use Rattle.lease_disk.specs.declared.disk.Failed.{Failed}
+use Rattle.std.specs.Prelude.{◌≡◌, ℕ, ◌+◌, ◌-◌, ◌^◌, ◌≤◌, min, Bool, true, false}
 
 -- the count rose, or it stands at the end of its type
 abbrev pub Rose : ℕ → ℕ → Type 0
 Rose before after = min (before + 1) (2 ^ 64 - 1) ≤ after
 
--- the count never falls, a call failed only where it rose, and a call that was served left it as it was
-pub record HasCause {T : Type 0} (before after : ℕ) (result : Result T Failed) : Type 0 where
+-- the count never falls, it rose where the disk failed, and it stayed where it did not
+pub record HasCause (before after : ℕ) (failed : Bool) : Type 0 where
   pub later : before ≤ after
-  pub failed : IsErr result → Rose before after
-  pub served : IsOk result → after ≡ before
+  pub rose : failed ≡ true → Rose before after
+  pub stayed : failed ≡ false → after ≡ before

@@ -1,8 +1,13 @@
 pub mod Call
+pub mod Calls
 pub mod Causes
 pub mod Images
+pub mod Kept
 pub mod Marks
 pub mod MemDisk
 pub mod Moments
 pub mod Past
 pub mod PastLaws
+pub mod Runs
+pub mod Shows
+pub mod Stop

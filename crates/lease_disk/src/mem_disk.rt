@@ -1,13 +1,14 @@
-// A disk in memory that fails when it is told to. It keeps a record of all that was written.
-ghost use Rattle.std.specs.Prelude.{◌≡◌, ◌+◌, ◌-◌, ◌^◌, ◌<◌, ◌≤◌, ◌==◌, ◌++◌, ◌∷◌, min, length, take, drop, replicate, not, Some, vec_capacity, is_ok, if◌then◌else◌, IsTrue, IfOk, OnOk, OnErr};
+// A disk in memory that fails when it is told to, and stops. It keeps a record of all that was written.
+ghost use Rattle.std.specs.Prelude.{◌≡◌, ◌+◌, ◌^◌, ◌<◌, ◌≤◌, ◌==◌, ◌∷◌, ℕ, List, length, not, false, Some, is_ok, slice_index, IsTrue, IfOk, OnOk, OnErr, refl};
 ghost use Rattle.std.specs.List.{list_any};
 ghost use Rattle.lease_disk.specs.Call.{Len, Write, Sync};
-ghost use Rattle.lease_disk.specs.Images.{overwritten};
-ghost use Rattle.lease_disk.specs.Past.{Wrote, Synced, content_of, is_pending};
+ghost use Rattle.lease_disk.specs.Past.{Wrote, Synced, content_of, is_pending, IsPending};
 ghost use Rattle.lease_disk.specs.PastLaws.{only_image, now_counts, content_now};
-ghost use Rattle.std.specs.Prelude.{refl};
-ghost use Rattle.lease_disk.specs.MemDisk.{new_disk, risen, is_listed, has_place, after_call, Leads, fails, told_of, MayLeave, clock_of, MayHaveLeft, reserved};
+ghost use Rattle.lease_disk.specs.Stop.{is_met, stop_after};
+ghost use Rattle.lease_disk.specs.MemDisk.{new_disk, risen, refuses_looks, refuses_changes, has_place, Leads, told_of, MayLeave, clock_of, MayHaveLeft, reserved, stopped_at, restarted};
 
+use crate::content::{append, copy_out, leave, write_over};
+use crate::stop::{Stop, counted_down, fails_next, was_met};
 use crate::{Disk, Failed};
 use std::alloc::{AllocError, Global};
 use std::marker::Model;
@@ -19,15 +20,23 @@ pub enum Mark {
     Sync,
 }
 
-/// A disk in memory. The calls that are listed fail, and so does a write past its room, and a write or a sync that
-/// finds no place in the record. No other call does. Each failure is counted.
+/// A disk in memory. The calls that are listed fail, and so does a write past its room, a write or a sync that finds
+/// no place in the record, the write or sync at which the disk stops, and each call after it until a restart. No other
+/// call does. Each failure is counted.
 #[derive(Drop)]
 pub struct MemDisk {
+    // The bytes of the disk as it was made or restarted, and as they read.
+    base: Vec<u8>,
     content: Vec<u8>,
+    // The record since: its entries, and the bytes of the writes among them.
     marks: Vec<Mark>,
     written: Vec<u8>,
+    // How many entries there were at the last sync that succeeded, and how many bytes the file then had.
+    firm_marks: usize,
+    firm_length: usize,
     calls: u64,
     failing: Vec<u64>,
+    stop: Stop,
     room: usize,
     entry_place: usize,
     byte_place: usize,
@@ -35,17 +44,18 @@ pub struct MemDisk {
 }
 
 impl Model for MemDisk {
-    ghost use Rattle.std.specs.Prelude.{reverse};
     ghost use Rattle.lease_disk.specs.MemDisk.{DiskState};
 
     ghost Value = { DiskState };
 
-    ghost use Rattle.lease_disk.specs.Marks.{unpacked, IsKept};
+    ghost use Rattle.lease_disk.specs.Marks.{past_of, IsKept};
 
     ghost view = { λ disk. record {
-      past = unpacked (reverse disk.marks.items) disk.written.items;
+      base = disk.base.items;
+      past = past_of disk;
       calls = disk.calls;
       failing = disk.failing.items;
+      stop = disk.stop;
       room = disk.room;
       entry_place = disk.entry_place;
       byte_place = disk.byte_place;
@@ -66,11 +76,15 @@ impl MemDisk {
     {
         let byte_place = room.checked_add(FIRST_PLACE).ok_or(AllocError)?;
         Ok(MemDisk {
+            base: Vec::with_capacity(alloc, room)?,
             content: Vec::with_capacity(alloc, room)?,
             marks: Vec::with_capacity(alloc, FIRST_PLACE)?,
             written: Vec::with_capacity(alloc, byte_place)?,
+            firm_marks: 0,
+            firm_length: 0,
             calls: 0,
             failing,
+            stop: Stop::Unarmed,
             room,
             entry_place: FIRST_PLACE,
             byte_place,
@@ -94,18 +108,93 @@ impl MemDisk {
 
     /// The bytes as they read.
     pub fn bytes(&self) -> &[u8]
-        ensures content { result.now ≡ content_of self.now.past }
+        ensures content { result.now ≡ content_of self.now.base self.now.past }
     {
         &self.content
     }
 
-    // Counts a call, and says whether it is one of those that fail.
-    fn count_call(&mut self) -> bool
+    /// Arms a stop at the write or sync of that number, counted from 1 from here on. That call fails, and so does each
+    /// call after it until a restart. A stop that was armed before is replaced, and once the disk has stopped nothing
+    /// changes.
+    pub fn stop_at(&mut self, call: u8, fill: u8)
+        requires first { 1 ≤ call }
+        requires last { call ≤ 4 }
+        ensures armed { self.new ≡ stopped_at self.old call fill }
+    {
+        if !was_met(self.stop) {
+            self.stop = Stop::Armed { call, fill };
+        }
+    }
+
+    /// Serves again, with no stop armed. Once the disk has stopped, each byte that was written since the last sync is
+    /// the byte of the stop. All other bytes and the length stay, and a crash leaves just these bytes. The record is
+    /// empty then, and keeps its place.
+    pub fn restart(self) -> MemDisk
+        ensures disk { result ≡ restarted self }
+        ensures firm { (image : List ℕ) → MayLeave result image → told_of result ≡ Some image }
+        ensures met { (fill : ℕ) → self.stop ≡ Stop.Met fill → (k : ℕ) → k < length (content_of self.base self.past)
+            → IsPending self.base self.past k → slice_index (content_of result.base result.past) k ≡ fill }
+        ensures other_bytes { (k : ℕ) → k < length (content_of self.base self.past) → (¬ IsPending self.base self.past k)
+            → slice_index (content_of result.base result.past) k ≡ slice_index (content_of self.base self.past) k }
+        ensures length { length (content_of result.base result.past) ≡ length (content_of self.base self.past) }
+        ensures unmet { is_met self.stop ≡ false → told_of result ≡ told_of self }
+    {
+        let MemDisk {
+            mut base,
+            mut content,
+            mut marks,
+            mut written,
+            firm_marks,
+            firm_length,
+            calls,
+            failing,
+            stop,
+            room,
+            entry_place,
+            byte_place,
+            faults,
+        } = self;
+        leave(&mut content, &marks[firm_marks..], firm_length, stop);
+        base.clear();
+        append(&mut base, &content);
+        marks.clear();
+        written.clear();
+        let stop = Stop::Unarmed;
+        MemDisk {
+            firm_marks: 0,
+            firm_length: base.len(),
+            base,
+            content,
+            marks,
+            written,
+            calls,
+            failing,
+            stop,
+            room,
+            entry_place,
+            byte_place,
+            faults,
+        }
+    }
+
+    // Counts a call that only looks, and says whether it fails.
+    fn count_look(&mut self) -> bool
         ensures counted { self.new ≡ record self.old { calls = risen self.old.calls } }
-        ensures listed { result ≡ is_listed self.old }
+        ensures refused { result ≡ refuses_looks self.old }
     {
         self.calls = self.calls.saturating_add(1);
-        is_one_of(&self.failing, self.calls)
+        is_one_of(&self.failing, self.calls) || was_met(self.stop)
+    }
+
+    // Counts a write or a sync, and says whether it fails.
+    fn count_change(&mut self) -> bool
+        ensures counted { self.new ≡ record self.old { calls = risen self.old.calls; stop = stop_after self.old.stop } }
+        ensures refused { result ≡ refuses_changes self.old }
+    {
+        let stops = fails_next(self.stop);
+        self.stop = counted_down(self.stop);
+        self.calls = self.calls.saturating_add(1);
+        is_one_of(&self.failing, self.calls) || stops
     }
 
     fn count_fault(&mut self)
@@ -146,13 +235,15 @@ impl MemDisk {
         ensures entered { self.new ≡ record self.old { past = Synced ∷ self.old.past } }
     {
         self.marks.push_reserved(Mark::Sync);
+        self.firm_marks = self.marks.len();
+        self.firm_length = self.content.len();
     }
 
     // A call that only looks.
     fn look(&mut self) -> Result<(), Failed>
         ensures leads { Leads self.old Len (is_ok result) self.new }
     {
-        if self.count_call() {
+        if self.count_look() {
             self.count_fault();
             return Err(Failed);
         }
@@ -163,12 +254,12 @@ impl MemDisk {
         requires { at + length bytes.now < 2 ^ 64 }
         ensures leads { Leads self.old (Write at bytes.now) (is_ok result) self.new }
     {
-        let listed = self.count_call();
+        let refused = self.count_change();
         let entered = at + bytes.len() as u64 <= self.room as u64 && self.has_place(bytes.len());
         if entered {
-            self.enter_write(at, bytes, !listed);
+            self.enter_write(at, bytes, !refused);
         }
-        if listed || !entered {
+        if refused || !entered {
             self.count_fault();
             return Err(Failed);
         }
@@ -178,9 +269,9 @@ impl MemDisk {
     fn settle(&mut self) -> Result<(), Failed>
         ensures leads { Leads self.old Sync (is_ok result) self.new }
     {
-        let listed = self.count_call();
+        let refused = self.count_change();
         let pending = self.is_pending();
-        if listed || (pending && !self.has_place(0)) {
+        if refused || (pending && !self.has_place(0)) {
             self.count_fault();
             return Err(Failed);
         }
@@ -204,11 +295,11 @@ impl Disk for MemDisk {
 
     ghost led = { Leads };
 
-    ghost counts_now = { λ disk t image _ here. now_counts disk.past t image here };
+    ghost counts_now = { λ disk t image _ here. now_counts disk.base disk.past t image here };
 
-    ghost only_now = { λ disk image left. only_image disk.past image left };
+    ghost only_now = { λ disk image left. only_image disk.base disk.past image left };
 
-    ghost content_is_image = { λ disk image told. content_now disk.past image told };
+    ghost content_is_image = { λ disk image told. content_now disk.base disk.past image told };
 
     ghost untold = { λ disk t image left. refl };
 
@@ -235,69 +326,4 @@ fn is_one_of(numbers: &[u64], number: u64) -> bool
     ensures { result ≡ list_any (λ other. other == number) numbers.now }
 {
     numbers.iter().any(|other| *other == number)
-}
-
-// Copies from the byte `at` on, and says how many bytes that were.
-fn copy_out(content: &[u8], at: usize, into: &mut [u8]) -> usize
-    ensures count { result ≡ min (length into.old) (length content.now - at) }
-    ensures bytes { into.new ≡ take result (drop at content.now) ++ drop result into.old }
-{
-    if at >= content.len() {
-        return 0;
-    }
-    let rest = &content[at..];
-    let count = into.len().min(rest.len());
-    let (front, _) = into.split_at_mut(count);
-    front.copy_from_slice(&rest[..count]);
-    count
-}
-
-// A write that is done, or one that fails.
-fn write_over(content: &mut Vec<u8>, at: usize, bytes: &[u8], done: bool)
-    requires { at + length bytes.now ≤ vec_capacity content.old }
-    ensures items { content.new.items ≡ (if done then overwritten content.old.items at bytes.now else content.old.items) }
-    ensures capacity { vec_capacity content.old ≤ vec_capacity content.new }
-{
-    if done {
-        lay_over(content, at, bytes);
-    }
-}
-
-// Writes over what is there and past the end, within the place that the vector has.
-fn lay_over(content: &mut Vec<u8>, at: usize, bytes: &[u8])
-    requires { at + length bytes.now ≤ vec_capacity content.old }
-    ensures items { content.new.items ≡ overwritten content.old.items at bytes.now }
-    ensures capacity { vec_capacity content.old ≤ vec_capacity content.new }
-{
-    pad(content, at + bytes.len());
-    copy_over(content, at, bytes);
-}
-
-// Fills the content up to the end with 0, where it is shorter.
-fn pad(content: &mut Vec<u8>, end: usize)
-    requires { end ≤ vec_capacity content.old }
-    ensures items { content.new.items ≡ content.old.items ++ replicate (end - length content.old.items) 0 }
-    ensures capacity { vec_capacity content.old ≤ vec_capacity content.new }
-{
-    if content.len() < end {
-        content.resize(end, 0).unwrap();
-    }
-}
-
-fn copy_over(content: &mut [u8], at: usize, bytes: &[u8])
-    requires { at + length bytes.now ≤ length content.old }
-    ensures { content.new ≡ take at content.old ++ (bytes.now ++ drop (at + length bytes.now) content.old) }
-{
-    let (_, rest) = content.split_at_mut(at);
-    let (range, _) = rest.split_at_mut(bytes.len());
-    range.copy_from_slice(bytes);
-}
-
-// Appends within the place that the vector has.
-fn append(written: &mut Vec<u8>, bytes: &[u8])
-    requires { length written.old.items + length bytes.now ≤ vec_capacity written.old }
-    ensures items { written.new.items ≡ written.old.items ++ bytes.now }
-    ensures capacity { vec_capacity written.old ≤ vec_capacity written.new }
-{
-    written.extend_from_slice(bytes).unwrap();
 }

@@ -9,7 +9,7 @@ pub use height::{Height, signature_len};
 pub use lmots_core::Width;
 pub use public_key::{PublicKey, key_id};
 pub use tree::Tree;
-pub use validity::verify;
+pub use validity::{verify, verify_under};
 
 mod height;
 mod nodes;

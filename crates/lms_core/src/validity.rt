@@ -31,6 +31,17 @@ pub fn verify(key: &PublicKey, message: &[u8], signature: &[u8]) -> bool
         }
 }
 
+/// Whether `signature` is a valid signature of `message` under the public key that `key` is (RFC 8554, section 5.4.2,
+/// algorithm 6). Under bytes that are no public key none is.
+pub fn verify_under(key: &[u8], message: &[u8], signature: &[u8]) -> bool
+    ensures { result ≡ is_valid_signature key.now message.now signature.now }
+{
+    match PublicKey::read(key) {
+        Some(key) => verify(&key, message, signature),
+        None => false,
+    }
+}
+
 // Whether a signature has the length of the parameter sets, both their codes, and the number of a leaf.
 fn is_formed(width: Width, height: Height, signature: &[u8]) -> bool
     ensures { result ≡ is_formed width height signature.now }

@@ -1,8 +1,7 @@
 use Rattle.std.proofs.Common.{◌≡◌, ◌++◌, drop}
-use Rattle.std.specs.Prelude.{flat_map}
-use Rattle.aip_topo.specs.Canonical.{domain_text}
+use Rattle.aip_topo.specs.Canonical.{domain_line, lines_text}
 use Rattle.aip_topo.proofs.writing.write_domains.Given as goal
 
 -- what is written with what is left is the whole
 abbrev pub invariant-loop-domain : goal.invariant-loop-domain
-invariant-loop-domain l = l.out.items ++ flat_map domain_text (drop l.domain-index l.domains) ≡ l.fn.out.items ++ flat_map domain_text l.domains
+invariant-loop-domain l = l.out.items ++ lines_text domain_line (drop l.domain-index l.domains) ≡ l.fn.out.items ++ lines_text domain_line l.domains

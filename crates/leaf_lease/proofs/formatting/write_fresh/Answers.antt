@@ -1,13 +1,14 @@
 use Rattle.std.proofs.Common.{◌≡◌, ◌+◌, ◌^◌, length, sym, ap, subst, is_ok, arith}
-use Rattle.leaf_lease.specs.Calls.{Ran}
+use Rattle.lease_disk.specs.Calls.{Ran, ran_then}
+use Rattle.lease_disk.specs.Shows.{zeros_of}
 use Rattle.leaf_lease.specs.LeaseFile.{file_size, fresh_rest}
 use Rattle.leaf_lease.specs.Format.{shut_calls, fill_calls}
-use Rattle.leaf_lease.proofs.Moments.{ran_then, on_ok_then, zeros_of, fresh_told, fill_from, fill_lengths, fill_fresh, fill_refused}
+use Rattle.leaf_lease.proofs.Moments.{on_ok_then, fresh_told, fill_from, fill_lengths, fill_fresh, fill_refused}
 use Rattle.leaf_lease.proofs.formatting.write_fresh.Goals as goal
 
 pub lay_rest-requires : goal.lay_rest-requires
 lay_rest-requires g c = record {
-  zeros = zeros_of c.split_at_mut-rest.result.0.now _ (17 + 2 ^ c.args.height) c.split_at_mut-rest.ensures.front (omega (arith, c.leaf_count.ensures.count)) (omega (arith, c.leaf_count.ensures.count, c.leaf_count.ensures.most));
+  zeros = zeros_of 1042 c.split_at_mut-rest.result.0.now _ (17 + 2 ^ c.args.height) c.split_at_mut-rest.ensures.front (omega (arith, c.leaf_count.ensures.count)) (omega (arith, c.leaf_count.ensures.count, c.leaf_count.ensures.most));
 }
 
 pub returns-clause-size : goal.returns-clause-size

@@ -1,7 +1,8 @@
 use Rattle.std.proofs.Common.{◌≡◌, inl, inr, true, ◌+◌, ◌^◌, ◌≤◌, [], ◌∷◌, length, sym, ◌∙◌, subst, arith}
 use Rattle.lease_disk.specs.Call.{Len, Read, Sync}
-use Rattle.leaf_lease.specs.Calls.{Ran}
-use Rattle.leaf_lease.proofs.Files.{shows_of}
+use Rattle.lease_disk.specs.Calls.{Ran}
+use Rattle.lease_disk.specs.Shows.{shows_of}
+use Rattle.leaf_lease.proofs.Files.{gone_below}
 use Rattle.leaf_lease.proofs.opening.open.Goals as goal
 
 pub invariant_of-result : goal.invariant_of-result
@@ -12,7 +13,7 @@ invariant_of-result g c =
       within = c.in-Free.ensures.within;
       ready = λ file told.
           let first = sym c.in-Ok.ensures.content ∙ told in
-          c.in-Free.ensures.says file (shows_of file c.split_at_mut-bytes.result.0.now c.inspect_firm.new.into c.in-Ok.seen.count _ c.split_at_mut-bytes.ensures.front (c.in-Ok.ensures.count file first) (c.in-Ok.ensures.bytes file first));
+          c.in-Free.ensures.says file (shows_of 1042 file c.split_at_mut-bytes.result.0.now c.inspect_firm.new.into c.in-Ok.seen.count _ c.split_at_mut-bytes.ensures.front (c.in-Ok.ensures.count file first) (c.in-Ok.ensures.bytes file first));
     }
 
 pub returns-in-Free-clause-calls : goal.returns-in-Free-clause-calls
@@ -32,9 +33,14 @@ returns-in-OtherKey-clause-calls g c =
 
 pub returns-in-Unformatted-clause-says : goal.returns-in-Unformatted-clause-says
 returns-in-Unformatted-clause-says g c = λ file told.
-    let says = c.in-Unformatted.ensures.says file (shows_of file c.split_at_mut-bytes.result.0.now c.inspect_firm.new.into c.in-Ok.seen.count _ c.split_at_mut-bytes.ensures.front (c.in-Ok.ensures.count file told) (c.in-Ok.ensures.bytes file told)) in
+    let says = c.in-Unformatted.ensures.says file (shows_of 1042 file c.split_at_mut-bytes.result.0.now c.inspect_firm.new.into c.in-Ok.seen.count _ c.split_at_mut-bytes.ensures.front (c.in-Ok.ensures.count file told) (c.in-Ok.ensures.bytes file told)) in
     (c.in-Ok.ensures.length file told, says.0, says.1)
 
 pub returns-in-OtherKey-clause-says : goal.returns-in-OtherKey-clause-says
 returns-in-OtherKey-clause-says g c = λ file told.
-    c.in-OtherKey.ensures.says file (shows_of file c.split_at_mut-bytes.result.0.now c.inspect_firm.new.into c.in-Ok.seen.count _ c.split_at_mut-bytes.ensures.front (c.in-Ok.ensures.count file told) (c.in-Ok.ensures.bytes file told))
+    c.in-OtherKey.ensures.says file (shows_of 1042 file c.split_at_mut-bytes.result.0.now c.inspect_firm.new.into c.in-Ok.seen.count _ c.split_at_mut-bytes.ensures.front (c.in-Ok.ensures.count file told) (c.in-Ok.ensures.bytes file told))
+
+pub returns-in-Free-clause-none_twice : goal.returns-in-Free-clause-none_twice
+returns-in-Free-clause-none_twice g c = λ file told.
+    gone_below c.args.id c.args.height c.in-Free.next file
+    (c.in-Free.ensures.says file (shows_of 1042 file c.split_at_mut-bytes.result.0.now c.inspect_firm.new.into c.in-Ok.seen.count _ c.split_at_mut-bytes.ensures.front (c.in-Ok.ensures.count file told) (c.in-Ok.ensures.bytes file told)))

@@ -2,7 +2,7 @@ use Rattle.std.proofs.Common.{◌≤◌, ◌-◌, length}
 use Rattle.lease_disk.proofs.file_disk.read_from.Given as goal
 
 abbrev pub invariant-loop-count : goal.invariant-loop-count
-invariant-loop-count g l = l.count ≤ length l.into
+invariant-loop-count l = l.count ≤ length l.into
 
 abbrev pub decreases-loop-count : goal.decreases-loop-count
-decreases-loop-count g l = length l.into - l.count
+decreases-loop-count l = length l.into - l.count

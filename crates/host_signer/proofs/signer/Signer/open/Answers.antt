@@ -1,7 +1,7 @@
 use Rattle.std.proofs.Common.{[], ◌∷◌, subst}
 use Rattle.std.specs.Prelude.{not, Ok, Err}
 use Rattle.lease_disk.specs.Call.{Len, Read, Sync}
-use Rattle.leaf_lease.specs.Calls.{Ran}
+use Rattle.lease_disk.specs.Calls.{Ran}
 use Rattle.leaf_lease.specs.Ends.{opened_disk, open_failed}
 use Rattle.leaf_lease.specs.LeaseFile.{file_size}
 use Rattle.host_signer.proofs.signer.Signer.open.Goals as goal

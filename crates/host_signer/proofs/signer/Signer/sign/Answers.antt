@@ -4,7 +4,8 @@ use Rattle.leaf_lease.specs.declared.leases.LeafLease.{LeafLease}
 use Rattle.leaf_lease.specs.declared.leases.Leases.{Leases}
 use Rattle.leaf_lease.specs.declared.leases.LeaseEnd.{LeaseEnd}
 use Rattle.leaf_lease.specs.declared.leases.LeaseEnd.TheVariants.{Dry}
-use Rattle.leaf_lease.specs.Kept.{KeepsGone, KeepsByte}
+use Rattle.lease_disk.specs.Kept.{KeepsByte}
+use Rattle.leaf_lease.specs.Kept.{KeepsGone}
 use Rattle.leaf_lease.specs.LeaseFile.{head_size}
 use Rattle.leaf_lease.specs.Leases.{leased_disk, is_dry}
 use Rattle.host_signer.specs.declared.signer.SignEnd.{SignEnd}

@@ -1,0 +1,35 @@
+-- Pairs and wildcards, and when two are the same.
+use Rattle.std.specs.Prelude.{ℕ, Bool, ◌&&◌, ◌==◌, nat_eq}
+use Rattle.std.specs.Cmp.Lexicographic.{pointwise}
+use Rattle.aip_addr.specs.declared.ids.Id.{Id}
+use Rattle.aip_addr.specs.declared.ids.Address.{Address}
+use Rattle.accept_cache.specs.declared.keys.Pair.{Pair}
+use Rattle.accept_cache.specs.declared.keys.Wildcard.{Wildcard}
+
+-- two ids are the same byte by byte
+abbrev pub same_id : Id → Id → Bool
+same_id a b = pointwise nat_eq a.bytes b.bytes
+
+-- two addresses have the same domain and the same host or router
+abbrev pub same_address : Address → Address → Bool
+same_address a b = same_id a.ad b.ad && same_id a.eid b.eid
+
+-- two pairs have the same source and the same port
+abbrev pub same_pair : Pair → Pair → Bool
+same_pair a b = same_address a.source b.source && (a.port == b.port)
+
+-- two wildcards have the same domain and the same port
+abbrev pub same_wildcard : Wildcard → Wildcard → Bool
+same_wildcard a b = same_id a.ad b.ad && (a.port == b.port)
+
+-- the source at the port
+abbrev pub pair_of : Address → ℕ → Pair
+pair_of source port = record { source = source; port = port }
+
+-- the domain at the port
+abbrev pub wildcard_of : Id → ℕ → Wildcard
+wildcard_of ad port = record { ad = ad; port = port }
+
+-- the pair's source is of the wildcard's domain, at its port
+abbrev pub is_of : Wildcard → Pair → Bool
+is_of wildcard pair = same_id pair.source.ad wildcard.ad && (pair.port == wildcard.port)

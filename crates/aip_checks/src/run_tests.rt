@@ -1,0 +1,103 @@
+ghost use Rattle.std.specs.Prelude.{◌≡◌, ◌≤◌};
+
+use crate::tests::{SCHEDULE, TRACE, disk, files, one, words};
+use aip_core::Core;
+use aip_io::{MemShelf, MemSink};
+use aip_rules::StepFault;
+use aip_top::{Status, aip};
+use std::alloc::{AllocError, Global};
+use std::test::Fail;
+
+// Packets that are repeated, reordered and lost.
+const PACKETS: &[u8] = b"send a b 1 -\nsend a b 2 -\nsend a b 3 -\ndeliver 2\ndeliver 0\ndeliver 0\ndeliver 0\n";
+
+// Their trace, as an independent implementation gives it.
+const PACKETS_TRACE: &[u8] =
+    b"> send a b 1 -\n< put 0 r/0 0100400000000001011111111111111111111111111111111111110001bbbbbbbbbbbbbbbbbbbbbbbbbbbbbbbbbbbb00011111111111111111111111111111111111110001aaaaaaaaaaaaaaaaaaaaaaaaaaaaaaaaaaaa000000\n> send a b 2 -\n< put 1 r/0 0100400000000002011111111111111111111111111111111111110001bbbbbbbbbbbbbbbbbbbbbbbbbbbbbbbbbbbb00011111111111111111111111111111111111110001aaaaaaaaaaaaaaaaaaaaaaaaaaaaaaaaaaaa000000\n> send a b 3 -\n< put 2 r/0 0100400000000003011111111111111111111111111111111111110001bbbbbbbbbbbbbbbbbbbbbbbbbbbbbbbbbbbb00011111111111111111111111111111111111110001aaaaaaaaaaaaaaaaaaaaaaaaaaaaaaaaaaaa000000\n> deliver 2\n< forward r 0 1 open\n< put 3 b 01003f0000000003011111111111111111111111111111111111110001bbbbbbbbbbbbbbbbbbbbbbbbbbbbbbbbbbbb00011111111111111111111111111111111111110001aaaaaaaaaaaaaaaaaaaaaaaaaaaaaaaaaaaa000000\n> deliver 0\n< forward r 0 1 open\n< put 4 b 01003f0000000001011111111111111111111111111111111111110001bbbbbbbbbbbbbbbbbbbbbbbbbbbbbbbbbbbb00011111111111111111111111111111111111110001aaaaaaaaaaaaaaaaaaaaaaaaaaaaaaaaaaaa000000\n> deliver 0\n< forward r 0 1 open\n< put 5 b 01003f0000000001011111111111111111111111111111111111110001bbbbbbbbbbbbbbbbbbbbbbbbbbbbbbbbbbbb00011111111111111111111111111111111111110001aaaaaaaaaaaaaaaaaaaaaaaaaaaaaaaaaaaa000000\n> deliver 0\n< forward r 0 1 open\n< put 6 b 01003f0000000001011111111111111111111111111111111111110001bbbbbbbbbbbbbbbbbbbbbbbbbbbbbbbbbbbb00011111111111111111111111111111111111110001aaaaaaaaaaaaaaaaaaaaaaaaaaaaaaaaaaaa000000\n";
+
+// How many bytes a call gives or takes at most, and the number of the call that fails, if it isn't 0.
+#[derive(Clone, Copy)]
+struct Pieces {
+    most: usize,
+    failing: u64,
+}
+
+// Runs a schedule, read and written in pieces.
+fn run_in(
+    alloc: Global,
+    schedule: &[u8],
+    reads: Pieces,
+    puts: Pieces,
+) -> Result<(Status, Option<Core>, MemSink), AllocError>
+    requires reads { 1 ≤ reads.most }
+    requires puts { 1 ≤ puts.most }
+{
+    let mut shelf = MemShelf::new(
+        alloc,
+        files(alloc, schedule)?,
+        one(alloc, reads.failing)?,
+        reads.most,
+    )?;
+    let mut sink = MemSink::new(alloc, 4096, one(alloc, puts.failing)?, puts.most)?;
+    let words = words(alloc, &["run", "topo.txt", "sched.txt"])?;
+    let (status, _, core) = aip(alloc, &words, &mut shelf, &mut sink, disk(alloc, 0)?);
+    Ok((status, core, sink))
+}
+
+fn pieces(most: usize, failing: u64) -> Pieces
+    ensures { result.most ≡ most }
+{
+    Pieces { most, failing }
+}
+
+#[test]
+fn bytes_come_and_go_one_by_one(rt: HostRuntime) -> Result<(), Fail> {
+    let (status, _, sink) = run_in(rt.alloc(), PACKETS, pieces(1, 0), pieces(1, 0))?;
+    assert_eq!(rt; status, Status::Done);
+    assert_eq!(rt; sink.taken(), PACKETS_TRACE);
+    Ok(())
+}
+
+// The topology takes five reads, and the schedule one. The next read of it would give its end.
+#[test]
+fn a_step_is_written_before_the_next_line_is_read(rt: HostRuntime) -> Result<(), Fail> {
+    let (status, core, sink) = run_in(rt.alloc(), SCHEDULE, pieces(64, 7), pieces(4096, 0))?;
+    assert_eq!(rt; status, Status::ReadFault);
+    assert_eq!(rt; sink.taken(), TRACE);
+    assert!(rt; core.is_none());
+    Ok(())
+}
+
+#[test]
+fn the_core_of_a_run_comes_back(rt: HostRuntime) -> Result<(), Fail> {
+    let (_, core, _) = run_in(rt.alloc(), SCHEDULE, pieces(64, 0), pieces(4096, 0))?;
+    let Some(core) = core else {
+        return Err("a core".into());
+    };
+    assert_eq!(rt; core.flights(), 2);
+    assert_eq!(rt; core.now(), 0);
+    Ok(())
+}
+
+#[test]
+fn the_core_comes_back_from_a_refused_line(rt: HostRuntime) -> Result<(), Fail> {
+    let (status, core, _) =
+        run_in(rt.alloc(), b"tick 1\ndeliver 99\n", pieces(64, 0), pieces(4096, 0))?;
+    let line = 2;
+    let fault = StepFault::NoFlight;
+    assert_eq!(rt; status, Status::Schedule { line, fault });
+    let Some(core) = core else {
+        return Err("a core".into());
+    };
+    assert_eq!(rt; core.flights(), 0);
+    assert_eq!(rt; core.now(), 1);
+    Ok(())
+}
+
+#[test]
+fn no_core_comes_back_from_a_fault(rt: HostRuntime) -> Result<(), Fail> {
+    let (status, core, _) = run_in(rt.alloc(), SCHEDULE, pieces(64, 0), pieces(5, 2))?;
+    assert_eq!(rt; status, Status::WriteFault);
+    assert!(rt; core.is_none());
+    Ok(())
+}

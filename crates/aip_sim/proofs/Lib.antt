@@ -1,0 +1,4 @@
+pub mod Turning
+pub mod Running
+pub mod Whole
+pub mod NextLines

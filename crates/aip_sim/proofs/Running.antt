@@ -1,0 +1,180 @@
+-- A run, from what its parts answer.
+use Rattle.std.proofs.Common.{◌≡◌, ◌≢◌, ◌≤◌, ◌⊎◌, IsSome, inl, inr, ℕ, Bool, true, false, cond, List, [], ◌∷◌, ◌++◌, Option, Some, None, Ok, Err, refl, ap, sym, ◌∙◌, subst}
+use Rattle.std.specs.Prelude.{IfSome, Result}
+use Rattle.std.proofs.lemmas.List.{append-nil}
+use Rattle.aip_text.specs.Lines.{lines_of}
+use Rattle.aip_io.specs.Causes.{Rose}
+use Rattle.aip_io.specs.Sink.{and_then, TookPart}
+use Rattle.aip_topo.specs.declared.topology.Topology.{Topology}
+use Rattle.aip_topo.specs.declared.faults.TopoEnd.{TopoEnd}
+use Rattle.aip_topo.specs.declared.faults.TopoEnd.TheVariants as topo_end
+use Rattle.aip_topo.specs.Reading.{topology_of}
+use Rattle.aip_rules.specs.Texts.{Ran, ran, ran_from, ran_over, end_of, output_of, text_of_run, is_built_topology}
+use Rattle.aip_rules.specs.Texts as texts
+use Rattle.aip_core.specs.Kept.{Kept}
+use Rattle.aip_core.specs.StandsFor.{StandsFor}
+use Rattle.aip_sim.specs.declared.ends.RunEnd.{RunEnd}
+use Rattle.aip_sim.specs.declared.ends.RunEnd.TheVariants as run_end
+use Rattle.aip_sim.specs.declared.turns.Turn.{Turn}
+use Rattle.aip_sim.specs.Causes.{HasCause, ReadsOnly}
+use Rattle.aip_sim.specs.Ends.{IsCutShort, run_end_of, is_topology_refused}
+use Rattle.aip_sim.specs.Judged.{end_by, end_over, IsOrUnread, IsUnopened, Judges}
+use Rattle.aip_sim.specs.Runs.{StandsForRun, Writes}
+use Rattle.aip_sim.specs.Turns.{HasCome, HasEnded, IsOpened, IsTurn}
+use Rattle.aip_sim.proofs.Turning.{not_cut_short}
+
+-- ## Counts
+
+-- no call before this one failed, and it reads only files that are named
+pub reads_on : (named wide : List ℕ → Type 0) (fault cause : Type 0) (text0 text1 : List ℕ → Option (List ℕ)) (before mid now : List ℕ → ℕ) → ((name : List ℕ) → named name → wide name)
+    → (fault → cause) → (cause → fault) → ((name : List ℕ) → text1 name ≡ text0 name) → ((name : List ℕ) → mid name ≡ before name) → ReadsOnly named fault text1 mid now
+    → ReadsOnly wide cause text0 before now
+reads_on named wide fault cause text0 text1 before mid now wider to from same still reads = record {
+  never_fall = λ name. subst (λ n. n ≤ now name) (still name) (reads.never_fall name);
+  rose = λ failed. let rose = reads.rose (from failed) in (rose.0, (wider rose.0 rose.1.0, subst (λ n. Rose n (now rose.0)) (still rose.0) rose.1.1));
+  stay = λ fine name. reads.stay (λ failed. fine (to failed)) name ∙ still name;
+  others = λ name other told. reads.others name (λ is. other (wider name is)) (subst (λ o. IsSome o) (sym (same name)) told) ∙ still name;
+}
+
+pub cause_on : (fault : Type 0) (before mid now : ℕ) → mid ≡ before → HasCause fault mid now → HasCause fault before now
+cause_on fault before mid now still cause = subst (λ n. HasCause fault n now) still cause
+
+-- ## On the way
+
+-- to take nothing is to stay
+and_nothing : (taken : Option (List ℕ)) → and_then taken [] ≡ taken
+and_nothing None = refl
+and_nothing (Some xs) = ap Some (append-nil xs)
+
+-- the run has come to its first line
+pub first : (t : Option (List ℕ)) (core : Kept) (left : List ℕ → List ℕ) (start : Option (List ℕ)) → ((text : List ℕ) → left text ≡ text)
+    → IfSome t (λ told. (topo : Topology) → StandsFor topo [] core → HasCome topo core 1 (lines_of (left told)) start start (ran topo told))
+first None core left start all = tt
+first (Some text) core left start all = λ topo stands. record {
+  trace = [];
+  stands = stands;
+  rest = ap (λ rest. ran_from topo [] 1 (lines_of rest)) (all text);
+  took = sym (and_nothing start);
+}
+
+-- a turn more
+pub next : (t mid : Option (List ℕ)) (core kept : Kept) (number : ℕ) (before after : List ℕ → List (List ℕ)) (start taken now : Option (List ℕ)) (turn : Turn) → mid ≡ t
+    → IfSome t (λ told. (topo : Topology) → StandsFor topo [] core → HasCome topo kept number (before told) start taken (ran topo told))
+    → IfSome mid (λ told. (topo : Topology) (start : Option (List ℕ)) (whole : Ran) → HasCome topo kept number (before told) start taken whole → IsTurn topo number (after told) start now whole turn)
+    → IfSome t (λ told. (topo : Topology) → StandsFor topo [] core → IsTurn topo number (after told) start now (ran topo told) turn)
+next None mid core kept number before after start taken now turn same came turns = tt
+next (Some text) mid core kept number before after start taken now turn same came turns = λ topo stands.
+    subst (λ o. IfSome o (λ told. (topo : Topology) (start : Option (List ℕ)) (whole : Ran) → HasCome topo kept number (before told) start taken whole → IsTurn topo number (after told) start now whole turn))
+    same turns topo start (ran topo text) (came topo stands)
+
+-- ## A whole run
+
+-- over a topology that is built the run is that of the schedule
+ran_is : (r : Result Topology TopoEnd) (topo : Topology) (schedule : List ℕ) → r ≡ Ok topo → is_built_topology topo ≡ true → ran_over r schedule ≡ ran topo schedule
+ran_is r topo schedule given built =
+    ap (λ x. ran_over x schedule) given ∙ ap (λ b. cond b (ran topo schedule) (record { trace = []; ending = texts.Topology_unbuilt })) built
+
+-- what was played is the run of the two texts
+pub wrote : (t s mid : Option (List ℕ)) (core : Kept) (end : RunEnd) (kept : Option Kept) (old new : Option (List ℕ)) → mid ≡ s → IfSome t (λ told. IsOpened told core)
+    → IfSome mid (λ lines. (topo : Topology) → StandsFor topo [] core → HasEnded topo (ran topo lines) old new end kept)
+    → IfSome t (λ told. IfSome s (λ lines. Writes (run_end_of (end_of told lines)) (output_of told lines) end old new))
+wrote None s mid core end kept old new same opened played = tt
+wrote (Some told) None mid core end kept old new same opened played = tt
+wrote (Some told) (Some lines) mid core end kept old new same opened played =
+    let ended = subst (λ o. IfSome o (λ lines. (topo : Topology) → StandsFor topo [] core → HasEnded topo (ran topo lines) old new end kept)) same played in
+    subst (λ (r : Ran). Writes (run_end_of r.ending) (text_of_run r) end old new) (sym (ran_is (topology_of told) opened.topo lines opened.given opened.built))
+    (ended opened.topo opened.stands).writes
+
+-- the core that comes back stands for its trace
+pub stood : (t s mid : Option (List ℕ)) (core : Kept) (end : RunEnd) (kept : Option Kept) (old new : Option (List ℕ)) → mid ≡ s → IfSome t (λ told. IsOpened told core)
+    → IfSome mid (λ lines. (topo : Topology) → StandsFor topo [] core → HasEnded topo (ran topo lines) old new end kept)
+    → IfSome kept (λ last. IfSome t (λ told. IfSome s (λ lines. StandsForRun told lines last)))
+stood t s mid core end None old new same opened played = tt
+stood None s mid core end (Some last) old new same opened played = tt
+stood (Some told) None mid core end (Some last) old new same opened played = tt
+stood (Some told) (Some lines) mid core end (Some last) old new same opened played =
+    let ended = subst (λ o. IfSome o (λ lines. (topo : Topology) → StandsFor topo [] core → HasEnded topo (ran topo lines) old new end (Some last))) same played in
+    record { topo = opened.topo; given = opened.given; stands = (ended opened.topo opened.stands).stands }
+
+-- a topology that was opened ends no run by itself
+ends_none : (r : Result Topology TopoEnd) (topo : Topology) → r ≡ Ok topo → is_built_topology topo ≡ true → end_over r ≡ None
+ends_none r topo given built = ap end_over given ∙ ap (λ b. cond b None (Some run_end.Unbuilt)) built
+
+pub judges_opened : (t : Option (List ℕ)) (core : Kept) (unread unwritten : Type 0) (end : RunEnd) → IfSome t (λ told. IsOpened told core) → is_topology_refused end ≡ false
+    → IfSome t (λ told. Judges told unread unwritten end)
+judges_opened None core unread unwritten end opened passed = tt
+judges_opened (Some told) core unread unwritten end opened passed = record {
+  comes = subst (λ o. IfSome o (λ expected. unwritten × IsOrUnread expected unread end)) (sym (ends_none (topology_of told) opened.topo opened.given opened.built)) tt;
+  only = λ refused. absurd (differ (sym refused ∙ passed));
+}
+  where
+    differ : true ≡ false → ⊥
+    differ is = cc
+
+-- a run that ends every run over the topology
+decided_by : (r : Result Topology TopoEnd) (lines : List ℕ) (end : RunEnd) → end_over r ≡ Some end → (run_end_of (ran_over r lines).ending ≡ end) × (text_of_run (ran_over r lines) ≡ [])
+decided_by (Ok topo) lines end e = built_or_not (is_built_topology topo) e
+  where
+    built_or_not : (b : Bool) → cond b None (Some run_end.Unbuilt) ≡ Some end
+        → (run_end_of (cond b (ran topo lines) (record { trace = []; ending = texts.Topology_unbuilt })).ending ≡ end) × (text_of_run (cond b (ran topo lines) (record { trace = []; ending = texts.Topology_unbuilt })) ≡ [])
+    built_or_not true e = absurd (cc)
+    built_or_not false e = (cc, refl)
+decided_by (Err (topo_end.Line line f)) lines end e = (cc, refl)
+decided_by (Err topo_end.Memory) lines end e = (cc, refl)
+
+-- nothing was taken, which is a first part of anything
+took_nothing : (taken : Option (List ℕ)) (bytes : List ℕ) → TookPart taken taken bytes
+took_nothing taken bytes = record { part = []; rest = bytes; whole = refl; took = sym (and_nothing taken) }
+
+-- a run that was never opened has written nothing
+pub unopened : (t s : Option (List ℕ)) (end : RunEnd) (old : Option (List ℕ)) → IfSome t (λ told. IsUnopened told end)
+    → IfSome t (λ told. IfSome s (λ lines. Writes (run_end_of (end_of told lines)) (output_of told lines) end old old))
+unopened None s end old h = tt
+unopened (Some told) None end old h = tt
+unopened (Some told) (Some lines) end old (inl short) = record {
+  answer = inl short;
+  whole = λ is. absurd (not_cut_short (end_of told lines) (subst IsCutShort is short));
+  part = took_nothing old (output_of told lines);
+}
+unopened (Some told) (Some lines) end old (inr by) =
+    let decided = decided_by (topology_of told) lines end by in record {
+      answer = inr (sym decided.0);
+      whole = λ is. sym (ap (and_then old) decided.1 ∙ and_nothing old);
+      part = took_nothing old (output_of told lines);
+    }
+
+cut_or : (end : RunEnd) (expected : RunEnd) (unread : Type 0) → IsCutShort end → (end ≡ run_end.ReadFault → unread) → end ≢ run_end.WriteFault → IsOrUnread expected unread end
+cut_or run_end.ReadFault expected unread short rose unwritten = inr (inr (refl, rose refl))
+cut_or run_end.WriteFault expected unread short rose unwritten = absurd (unwritten refl)
+cut_or run_end.Memory expected unread short rose unwritten = inr (inl refl)
+cut_or run_end.Done expected unread short rose unwritten = absurd short
+cut_or (run_end.Topology line f) expected unread short rose unwritten = absurd short
+cut_or (run_end.Schedule line f) expected unread short rose unwritten = absurd short
+cut_or run_end.Unbuilt expected unread short rose unwritten = absurd short
+
+-- a refused topology cuts nothing short
+not_both : (end : RunEnd) → IsCutShort end → is_topology_refused end ≡ true → ⊥
+not_both run_end.ReadFault short is = cc
+not_both run_end.WriteFault short is = cc
+not_both run_end.Memory short is = cc
+not_both run_end.Done short is = short
+not_both (run_end.Topology line f) short is = short
+not_both (run_end.Schedule line f) short is = short
+not_both run_end.Unbuilt short is = short
+
+-- how the topology text decides a run that was never opened
+pub judges_unopened : (t : Option (List ℕ)) (unread unwritten : Type 0) (end : RunEnd) → unwritten → (end ≡ run_end.ReadFault → unread) → end ≢ run_end.WriteFault → IfSome t (λ told. IsUnopened told end)
+    → IfSome t (λ told. Judges told unread unwritten end)
+judges_unopened None unread unwritten end still rose fine h = tt
+judges_unopened (Some told) unread unwritten end still rose fine (inl short) = record {
+  comes = each (end_by told);
+  only = λ is. absurd (not_both end short is);
+}
+  where
+    each : (o : Option RunEnd) → IfSome o (λ expected. unwritten × IsOrUnread expected unread end)
+    each None = tt
+    each (Some expected) = (still, cut_or end expected unread short rose fine)
+judges_unopened (Some told) unread unwritten end still rose fine (inr by) = record {
+  comes = subst (λ o. IfSome o (λ expected. unwritten × IsOrUnread expected unread end)) (sym by) (still, inl refl);
+  only = λ is. by;
+}

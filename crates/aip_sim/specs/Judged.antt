@@ -1,0 +1,34 @@
+-- What the text of a topology by itself says of the answer of a run.
+use Rattle.std.specs.Prelude.{◌≡◌, ◌⊎◌, ℕ, true, List, Option, Some, None, IfSome, Result, Ok, Err, if◌then◌else◌}
+use Rattle.aip_topo.specs.declared.topology.Topology.{Topology}
+use Rattle.aip_topo.specs.declared.faults.TopoEnd.{TopoEnd}
+use Rattle.aip_topo.specs.declared.faults.TopoEnd.TheVariants as topo_end
+use Rattle.aip_topo.specs.Reading.{topology_of}
+use Rattle.aip_rules.specs.Texts.{is_built_topology}
+use Rattle.aip_sim.specs.declared.ends.RunEnd.{RunEnd}
+use Rattle.aip_sim.specs.declared.ends.RunEnd.TheVariants as run_end
+use Rattle.aip_sim.specs.Ends.{IsCutShort, is_topology_refused}
+
+-- what ends every run over what a topology text gives: its first refused line, or that its kind isn't built
+abbrev pub end_over : Result Topology TopoEnd → Option RunEnd
+end_over (Ok topo) = if is_built_topology topo then None else Some run_end.Unbuilt
+end_over (Err (topo_end.Line line f)) = Some (run_end.Topology line f)
+end_over (Err topo_end.Memory) = Some run_end.Unbuilt
+
+-- the same by the text
+abbrev pub end_by : List ℕ → Option RunEnd
+end_by text = end_over (topology_of text)
+
+-- no run was begun: a fault or want of memory cut it short, or the topology text ends every run so
+abbrev pub IsUnopened : List ℕ → RunEnd → Type 0
+IsUnopened text end = IsCutShort end ⊎ (end_by text ≡ Some end)
+
+-- the answer is the one that is expected, or want of memory, or a fault of reading that has its cause
+abbrev pub IsOrUnread : RunEnd → Type 0 → RunEnd → Type 0
+IsOrUnread expected rose end = (end ≡ expected) ⊎ ((end ≡ run_end.Memory) ⊎ ((end ≡ run_end.ReadFault) × rose))
+
+-- A topology text that by itself ends every run ends this one, unless its file couldn't be read or there was no memory, and
+-- then nothing is written; and only such a text is refused.
+pub record Judges (text : List ℕ) (unread unwritten : Type 0) (end : RunEnd) : Type 0 where
+  pub comes : IfSome (end_by text) (λ expected. unwritten × IsOrUnread expected unread end)
+  pub only : is_topology_refused end ≡ true → end_by text ≡ Some end

@@ -1,0 +1,97 @@
+// The next line of a schedule.
+ghost use Rattle.std.specs.Prelude.{◌≡◌, ℕ, ◌<◌, List, length, true, Err, IfSome};
+ghost use Rattle.aip_text.specs.Lines.{lines_of};
+ghost use Rattle.aip_io.specs.Lines.{left_of};
+ghost use Rattle.aip_rules.specs.Texts.{scheduled};
+ghost use Rattle.aip_sim.specs.Causes.{ReadsOnly};
+ghost use Rattle.aip_sim.specs.Schedules.{GoesOn, IsJudged, IsNextOf, IsScheduled};
+
+use crate::ends::RunEnd;
+use aip_event::{Input, read_input};
+use aip_io::{Got, Lines, Shelf};
+use aip_rules::StepFault;
+use aip_text::{has_carriage_return, is_skipped};
+use std::alloc::Global;
+
+/// The most lines of a schedule.
+pub const MOST_LINES: u32 = 65_536;
+
+/// The most bytes of a line.
+pub const LONGEST_LINE: usize = 20_000;
+
+/// What the next line of a schedule is.
+#[derive(Drop)]
+pub enum Scheduled {
+    /// An input.
+    Input(Input),
+    /// A line that is skipped.
+    Skipped,
+    /// A line that is refused by itself, with its first fault.
+    Refused(StepFault),
+    /// There is none.
+    End,
+    /// It couldn't be read.
+    Cut(RunEnd),
+}
+
+// A line by itself: the first fault that applies, or an input, or a line that is skipped.
+fn judge(alloc: Global, number: u32, line: &[u8]) -> Scheduled
+    ensures judged { IsJudged number line.now result }
+    ensures known { IsScheduled number line.now result }
+{
+    if number > MOST_LINES {
+        return Scheduled::Refused(StepFault::Many);
+    }
+    if line.len() > LONGEST_LINE {
+        return Scheduled::Refused(StepFault::Long);
+    }
+    if has_carriage_return(line) {
+        return Scheduled::Refused(StepFault::Form);
+    }
+    if is_skipped(line) {
+        return Scheduled::Skipped;
+    }
+    match read_input(alloc, line) {
+        Ok(Some(input)) => Scheduled::Input(input),
+        Ok(None) => Scheduled::Refused(StepFault::Form),
+        Err(_) => Scheduled::Cut(RunEnd::Memory),
+    }
+}
+
+// The first fault of a line that is too long.
+fn fault_of_long(number: u32) -> StepFault
+    ensures { (line : List ℕ) → 20000 < length line → scheduled number line ≡ Err result }
+{
+    if number > MOST_LINES {
+        StepFault::Many
+    } else {
+        StepFault::Long
+    }
+}
+
+/// What the next line of the schedule is, where it has this number.
+pub fn next_scheduled<S: Shelf>(
+    alloc: Global,
+    shelf: &mut S,
+    name: &str,
+    lines: &mut Lines,
+    number: u32,
+) -> Scheduled
+    requires more { lines.old.more ≡ true }
+    requires most { lines.old.most ≡ 20000 }
+    ensures told { IfSome (S.text shelf.old name.now) (λ told.
+        IsNextOf number (lines_of (left_of told lines.old)) (lines_of (left_of told lines.new)) lines.new.line result) }
+    ensures known { IsScheduled number lines.new.line result }
+    ensures goes_on { GoesOn result → lines.new.more ≡ true }
+    ensures most { lines.new.most ≡ 20000 }
+    ensures text { (other : List ℕ) → S.text shelf.new other ≡ S.text shelf.old other }
+    ensures counts { ReadsOnly (λ other. other ≡ name.now) (result ≡ Scheduled.Cut RunEnd.ReadFault)
+        (S.text shelf.old) (S.faults shelf.old) (S.faults shelf.new) }
+{
+    match lines.next(shelf, name) {
+        Got::Line | Got::Last => judge(alloc, number, lines.line()),
+        Got::Long => Scheduled::Refused(fault_of_long(number)),
+        Got::End => Scheduled::End,
+        Got::Failed => Scheduled::Cut(RunEnd::ReadFault),
+    }
+}

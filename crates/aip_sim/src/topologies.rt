@@ -1,0 +1,124 @@
+// The topology in a file.
+ghost use Rattle.std.specs.Prelude.{◌≡◌, ◌≢◌, ◌⊎◌, ℕ, List, Err, IfSome, IfOk, IfErr, IsErrOf};
+ghost use Rattle.aip_topo.specs.Reading.{topology_of};
+ghost use Rattle.aip_topo.specs.Sound.{IsSound};
+ghost use Rattle.aip_rules.specs.Texts.{is_open, is_plain, is_built_topology};
+ghost use Rattle.std.specs.List.{list_all};
+ghost use Rattle.aip_sim.specs.Causes.{ReadsOnly};
+ghost use Rattle.aip_sim.specs.Topologies.{IsReadOf};
+
+use aip_io::{ReadEnd, Shelf, read_all};
+use aip_topo::{Part, Router, TopoEnd, TopoFault, Topology};
+use std::alloc::Global;
+
+/// Why no topology could be read.
+#[derive(Clone, Copy, Debug, PartialEq, Eq)]
+pub enum TopologyEnd {
+    /// The file couldn't be read.
+    ReadFault,
+    /// A line is refused.
+    Refused {
+        /// The number of the first refused line, from 1.
+        line: u32,
+        /// The first fault that applies to it.
+        fault: TopoFault,
+    },
+    /// There was no memory.
+    Memory,
+}
+
+impl From<ReadEnd> for TopologyEnd {
+    ghost use Rattle.std.specs.Prelude.{◌≡◌};
+    ghost use Rattle.aip_sim.specs.Unread.{topology_unread};
+
+    ghost from_gives = { λ unread end. end ≡ topology_unread unread };
+
+    fn from(end: ReadEnd) -> Self {
+        match end {
+            ReadEnd::Failed => TopologyEnd::ReadFault,
+            ReadEnd::Memory => TopologyEnd::Memory,
+        }
+    }
+}
+
+impl From<TopoEnd> for TopologyEnd {
+    ghost use Rattle.std.specs.Prelude.{◌≡◌};
+    ghost use Rattle.aip_sim.specs.Unread.{topology_refused};
+
+    ghost from_gives = { λ refused end. end ≡ topology_refused refused };
+
+    fn from(end: TopoEnd) -> Self {
+        match end {
+            TopoEnd::Line { line, fault } => TopologyEnd::Refused { line, fault },
+            TopoEnd::Memory => TopologyEnd::Memory,
+        }
+    }
+}
+
+// As much of a topology's text as decides what it gives.
+fn text_in<S: Shelf>(alloc: Global, shelf: &mut S, name: &str) -> Result<Vec<u8>, TopologyEnd>
+    ensures decides { IfOk result (λ bytes. IfSome (S.text shelf.old name.now) (λ told. topology_of bytes.items ≡ topology_of told)) }
+    ensures unread { IfErr result (λ end. (end ≡ TopologyEnd.ReadFault) ⊎ (end ≡ TopologyEnd.Memory)) }
+    ensures text { (other : List ℕ) → S.text shelf.new other ≡ S.text shelf.old other }
+    ensures counts { ReadsOnly (λ other. other ≡ name.now) (IsErrOf result TopologyEnd.ReadFault)
+        (S.text shelf.old) (S.faults shelf.old) (S.faults shelf.new) }
+{
+    let bytes = read_all(alloc, shelf, name, usize::MAX)?;
+    Ok(bytes)
+}
+
+// The topology that a text gives.
+fn topology_in(alloc: Global, text: &[u8]) -> Result<Topology, TopologyEnd>
+    ensures read { IsReadOf text.now result }
+    ensures sound { IfOk result IsSound }
+    ensures known { result ≢ Err TopologyEnd.ReadFault }
+{
+    match aip_topo::read(alloc, text) {
+        Ok(topology) => Ok(topology),
+        Err(end) => Err(TopologyEnd::from(end)),
+    }
+}
+
+/// Reads the topology in the file of this name.
+pub fn read_topology<S: Shelf>(
+    alloc: Global,
+    shelf: &mut S,
+    name: &str,
+) -> Result<Topology, TopologyEnd>
+    ensures read { IfSome (S.text shelf.old name.now) (λ told. IsReadOf told result) }
+    ensures sound { IfOk result IsSound }
+    ensures text { (other : List ℕ) → S.text shelf.new other ≡ S.text shelf.old other }
+    ensures counts { ReadsOnly (λ other. other ≡ name.now) (IsErrOf result TopologyEnd.ReadFault)
+        (S.text shelf.old) (S.faults shelf.old) (S.faults shelf.new) }
+{
+    let text = text_in(alloc, shelf, name)?;
+    topology_in(alloc, &text)
+}
+
+fn are_open(routers: &[Router]) -> bool
+    ensures { result ≡ list_all is_open routers.now }
+{
+    routers.iter().all(|router| !router.checking)
+}
+
+fn is_plain(part: &Part) -> bool
+    ensures { result ≡ is_plain part.now }
+{
+    match part {
+        Part::Host(host) => !host.guarded,
+        Part::Link(_) => true,
+    }
+}
+
+fn are_plain(parts: &[Part]) -> bool
+    ensures { result ≡ list_all is_plain parts.now }
+{
+    parts.iter().all(|part| is_plain(part))
+}
+
+/// Whether runs are built over a topology of this kind.
+pub fn is_built(topology: &Topology) -> bool
+    ensures { result ≡ is_built_topology topology.now }
+{
+    are_open(topology.routers.as_slice()) && are_plain(topology.parts.as_slice())
+}

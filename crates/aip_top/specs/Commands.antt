@@ -1,0 +1,41 @@
+-- What each command answers, writes and leaves, where what it reads is told.
+use Rattle.std.specs.Prelude.{ℕ, List, Option, IfSome}
+use Rattle.lms_core.specs.Tree.{Key, identifier_of}
+use Rattle.lms_core.specs.Parameters.{levels_of}
+use Rattle.lease_disk.specs.Images.{OnlyLooks}
+use Rattle.aip_rules.specs.Texts.{end_of, output_of}
+use Rattle.aip_core.specs.Kept.{Kept}
+use Rattle.aip_sim.specs.Runs.{StandsForRun}
+use Rattle.aip_top.specs.declared.status.Status.{Status}
+use Rattle.aip_top.specs.Statuses.{status_of}
+use Rattle.aip_top.specs.Judged.{IsOrMemory}
+use Rattle.aip_top.specs.Written.{Writes, WritesOnDone}
+use Rattle.aip_top.specs.Addresses.{address_end, addresses_in}
+use Rattle.aip_top.specs.Leasing.{Formats, HasFresh, IsAlready, IsFormatted, KeepsOpen, LeaseSays, lease_end, lease_text}
+
+-- `run` of two texts: it ends and writes as the rules say, comes to its end where nothing fails, and a core that comes back
+-- stands for the trace.
+pub record RunOf (topology schedule : List ℕ) (unread unwritten : Type 0) (end : Status) (core : Option Kept) (old new : Option (List ℕ)) : Type 0 where
+  pub writes : Writes (status_of (end_of topology schedule)) (output_of topology schedule) end old new
+  pub complete : (unread → ⊥) → (unwritten → ⊥) → IsOrMemory (status_of (end_of topology schedule)) end
+  pub stands : IfSome core (StandsForRun topology schedule)
+
+-- `address` of a topology text: the same, for the addresses in it.
+pub record AddressOf (text : List ℕ) (unread unwritten : Type 0) (end : Status) (old new : Option (List ℕ)) : Type 0 where
+  pub writes : Writes (address_end text) (addresses_in text) end old new
+  pub complete : (unread → ⊥) → (unwritten → ⊥) → IsOrMemory (address_end text) end
+
+-- `lease` for a key: how it may end, by the file as it was; where the file was formatted, it is fresh in every image that a
+-- crash may leave; what a crash may leave at each moment; and the line is written.
+pub record LeaseOf {D : Type 0} (content : D → Option (List ℕ)) (may_leave : D → List ℕ → Type 0) (clock : D → ℕ) (during : D → ℕ → List ℕ → Type 0) (key : Key) (unread unwritten failed : Type 0) (end : Status) (disk after : D) (old new : Option (List ℕ)) : Type 0 where
+  pub says : LeaseSays (content disk) end
+  pub formatted : IsFormatted end → HasFresh content may_leave (identifier_of key.seed) (levels_of key.height) disk after
+  pub moments : Formats content may_leave clock during (identifier_of key.seed) (levels_of key.height) disk after
+  pub writes : WritesOnDone (lease_text key) end old new
+  pub complete : IfSome (content disk) (λ file. (unread → ⊥) → (unwritten → ⊥) → (failed → ⊥) → IsOrMemory (lease_end file) end)
+
+-- `lease`, whatever is told: an open file stays as it was at each moment, and where it was formatted already the disk was
+-- only looked at.
+pub record KeepsLeases {D : Type 0} (content : D → Option (List ℕ)) (may_leave : D → List ℕ → Type 0) (clock : D → ℕ) (during : D → ℕ → List ℕ → Type 0) (end : Status) (disk after : D) : Type 0 where
+  pub already : IsAlready end → OnlyLooks content may_leave clock during disk after
+  pub keeps : KeepsOpen may_leave clock during disk after

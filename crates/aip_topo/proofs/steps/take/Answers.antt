@@ -1,0 +1,12 @@
+use Rattle.std.proofs.Common.{sym, subst, ◌∙◌}
+use Rattle.std.specs.Prelude.{IsTrue}
+use Rattle.aip_topo.specs.Steps.{fits}
+use Rattle.aip_topo.proofs.Accepted.{line_fits}
+use Rattle.aip_topo.proofs.steps.take.Goals as goal
+
+pub add-requires : goal.add-requires
+add-requires c =
+    let topology = c.args.draft.now.topology in
+    let few = sym c.is_many.ensures ∙ c.if-is_many.false in
+    let ranged = sym c.is_out_of_range.ensures ∙ c.if-is_out_of_range.false in
+    subst (λ e. IsTrue (fits topology e)) (sym c.in_ok-entry.ensures) (line_fits topology c.args.line.now few ranged)

@@ -1,0 +1,254 @@
+ghost use Rattle.std.specs.Prelude.{◌≡◌, false, IfOk, unwrap_or};
+ghost use Rattle.std.specs.List.{list_any};
+ghost use Rattle.aip_topo.specs.Steps.{ad_or_zeros, domain_place, entry_of, has_ad, has_eid, has_key_id, id_from, is_domain_identified, is_host_identified, is_identified, is_key_taken, is_no_ad, is_no_eid, is_out_of_range, is_twin, key_of, router_at, router_place};
+
+use crate::judging::{domain_place, router_place};
+use crate::lines::{Line, Origin, Setting};
+use crate::lists::{Domains, Routers};
+use crate::topology::{Domain, HostPart, Key, LinkPart, Part, Router, Topology};
+use aip_addr::{Address, Id, Memory, Name};
+use lms_core::Tree;
+use std::alloc::Global;
+
+/// What a line adds to a topology, with its id and its key.
+#[derive(Drop)]
+pub enum Entry {
+    /// The value of a setting.
+    Set {
+        /// The setting.
+        setting: Setting,
+        /// Its value.
+        value: u64,
+    },
+    /// A domain.
+    Domain(Domain),
+    /// A router.
+    Router(Router),
+    /// A host or a link.
+    Part(Part),
+}
+
+/// An id and its key.
+#[derive(Drop)]
+struct KeyedId {
+    id: Id,
+    key: Key,
+}
+
+// Makes the key that a line gives, where it gives one. The only error is want of memory.
+fn keyed(alloc: Global, origin: &Origin) -> Result<KeyedId, Memory>
+    requires { is_no_eid origin.now ≡ false }
+    ensures { IfOk result (λ keyed. (keyed.id ≡ id_from origin.now) × (keyed.key ≡ key_of origin.now)) }
+{
+    match origin {
+        Origin::Given(id) => Ok(KeyedId {
+            id: *id,
+            key: Key::Given,
+        }),
+        Origin::Seed {
+            width,
+            height,
+            interface,
+            seed,
+        } => {
+            let tree = Tree::build(alloc, seed, *width, *height)?;
+            let id = Id::of_key(&tree.public().bytes(), *interface as u8);
+            Ok(KeyedId {
+                id,
+                key: Key::Made(tree),
+            })
+        }
+    }
+}
+
+fn ad_or_zeros(domains: &Domains, place: u16) -> Id
+    ensures { result ≡ ad_or_zeros place domains.now }
+{
+    match domains.as_slice().get(place as usize) {
+        Some(domain) => domain.ad,
+        None => Id { bytes: [0; 20] },
+    }
+}
+
+fn domain_of(alloc: Global, name: Name, origin: &Origin) -> Result<Domain, Memory>
+    requires { is_no_ad origin.now ≡ false }
+    ensures { IfOk result (λ domain. (domain.name ≡ name) × (domain.ad ≡ id_from origin.now) × (domain.key ≡ key_of origin.now)) }
+{
+    let keyed = keyed(alloc, origin)?;
+    Ok(Domain {
+        name,
+        ad: keyed.id,
+        key: keyed.key,
+    })
+}
+
+fn router_of(
+    domains: &Domains,
+    name: &Name,
+    domain: &Name,
+    checking: bool,
+    master: &[u8; 32],
+) -> Router
+    ensures { result ≡ router_at (unwrap_or (domain_place domain.now domains.now) 0) domains.now name.now checking master.now }
+{
+    let place = domain_place(domains, domain).unwrap_or(0);
+    Router {
+        name: *name,
+        domain: place,
+        checking,
+        master: *master,
+        address: Address {
+            ad: ad_or_zeros(domains, place),
+            eid: Id::of_router(name),
+        },
+    }
+}
+
+fn router_or_first(routers: &Routers, name: &Name) -> u16
+    ensures { result ≡ unwrap_or (router_place name.now routers.now) 0 }
+{
+    router_place(routers, name).unwrap_or(0)
+}
+
+// What the line adds. The only error is want of memory.
+pub(crate) fn entry_of(alloc: Global, topology: &Topology, line: &Line) -> Result<Entry, Memory>
+    requires { is_out_of_range line.now ≡ false }
+    ensures { IfOk result (λ entry. entry ≡ entry_of topology.now line.now) }
+{
+    match line {
+        Line::Set { setting, value } => Ok(Entry::Set {
+            setting: *setting,
+            value: *value,
+        }),
+        Line::Domain { name, origin } => Ok(Entry::Domain(domain_of(alloc, *name, origin)?)),
+        Line::Router {
+            name,
+            domain,
+            checking,
+            master,
+        } => Ok(Entry::Router(router_of(&topology.domains, name, domain, *checking, master))),
+        Line::Host {
+            name,
+            router,
+            guarded,
+            origin,
+        } => {
+            let keyed = keyed(alloc, origin)?;
+            Ok(Entry::Part(Part::Host(HostPart {
+                name: *name,
+                router: router_or_first(&topology.routers, router),
+                guarded: *guarded,
+                eid: keyed.id,
+                key: keyed.key,
+            })))
+        }
+        Line::Link {
+            a,
+            b,
+            a_trusts,
+            b_trusts,
+        } => Ok(Entry::Part(Part::Link(LinkPart {
+            a: router_or_first(&topology.routers, a),
+            b: router_or_first(&topology.routers, b),
+            a_trusts: *a_trusts,
+            b_trusts: *b_trusts,
+        }))),
+    }
+}
+
+fn is_ad_taken(domains: &[Domain], ad: &Id) -> bool
+    ensures { result ≡ list_any (has_ad ad.now) domains.now }
+{
+    domains.iter().any(|d| d.ad.bytes == ad.bytes)
+}
+
+fn is_eid_taken(routers: &[Router], eid: &Id) -> bool
+    ensures { result ≡ list_any (has_eid eid.now) routers.now }
+{
+    routers.iter().any(|r| r.address.eid.bytes == eid.bytes)
+}
+
+fn has_key_id(part: &Part, eid: &Id) -> bool
+    ensures { result ≡ has_key_id eid.now part.now }
+{
+    match part {
+        Part::Host(host) => host.eid.key_id().bytes == eid.key_id().bytes,
+        Part::Link(_) => false,
+    }
+}
+
+fn is_key_id_taken(parts: &[Part], eid: &Id) -> bool
+    ensures { result ≡ list_any (has_key_id eid.now) parts.now }
+{
+    parts.iter().any(|p| has_key_id(p, eid))
+}
+
+// Whether the key was made and has this identifier.
+fn is_identified(key: &Key, id: &[u8; 16]) -> bool
+    ensures { result ≡ is_identified id.now key.now }
+{
+    match key {
+        Key::Given => false,
+        Key::Made(tree) => tree.id() == *id,
+    }
+}
+
+fn is_host_identified(part: &Part, id: &[u8; 16]) -> bool
+    ensures { result ≡ is_host_identified id.now part.now }
+{
+    match part {
+        Part::Host(host) => is_identified(&host.key, id),
+        Part::Link(_) => false,
+    }
+}
+
+fn identifies_a_domain(domains: &[Domain], id: &[u8; 16]) -> bool
+    ensures { result ≡ list_any (is_domain_identified id.now) domains.now }
+{
+    domains.iter().any(|d| is_identified(&d.key, id))
+}
+
+fn identifies_a_host(parts: &[Part], id: &[u8; 16]) -> bool
+    ensures { result ≡ list_any (is_host_identified id.now) parts.now }
+{
+    parts.iter().any(|p| is_host_identified(p, id))
+}
+
+fn is_key_taken(topology: &Topology, key: &Key) -> bool
+    ensures { result ≡ is_key_taken topology.now key.now }
+{
+    match key {
+        Key::Given => false,
+        Key::Made(tree) => {
+            let id = tree.id();
+            identifies_a_domain(topology.domains.as_slice(), &id)
+                || identifies_a_host(topology.parts.as_slice(), &id)
+        }
+    }
+}
+
+fn is_part_twin(topology: &Topology, part: &Part) -> bool
+    ensures { result ≡ is_twin topology.now (Entry.Part part.now) }
+{
+    match part {
+        Part::Host(host) => {
+            is_key_id_taken(topology.parts.as_slice(), &host.eid)
+                || is_key_taken(topology, &host.key)
+        }
+        Part::Link(_) => false,
+    }
+}
+
+pub(crate) fn is_twin(topology: &Topology, entry: &Entry) -> bool
+    ensures { result ≡ is_twin topology.now entry.now }
+{
+    match entry {
+        Entry::Set { .. } => false,
+        Entry::Domain(domain) => {
+            is_ad_taken(topology.domains.as_slice(), &domain.ad)
+                || is_key_taken(topology, &domain.key)
+        }
+        Entry::Router(router) => is_eid_taken(topology.routers.as_slice(), &router.address.eid),
+        Entry::Part(part) => is_part_twin(topology, part),
+    }
+}

@@ -1,0 +1,171 @@
+//! Challenges and responses of a network that two other implementations ran, and each refusal in its turn.
+ghost use Rattle.std.specs.Prelude.{◌≡◌, length};
+
+use super::*;
+use aip_addr::{Address, Bytes, Id};
+use aip_frame::{Frame, Kind, encode, is_frame, kind_of};
+use lms_core::{Height, Tree, Width, signature_len};
+use sha2::{Digest, Sha256};
+use std::alloc::Global;
+use std::test::Fail;
+
+// The challenge that router r of domain d puts to host a, for a packet of a's at port 0 and time 0.
+const CHALLENGE: [u8; 154] = *b"\
+    \x01\x11\x11\x11\x11\x11\x11\x11\x11\x11\x11\x11\x11\x11\x11\x11\x11\x11\x11\x00\x00\xc6\xdc\xb4\xc7\x7c\xf2\
+    \x00\xec\xbb\x25\x2a\x5f\x85\x0e\x01\x2c\xc5\xa5\x00\x01\x11\x11\x11\x11\x11\x11\x11\x11\x11\x11\x11\x11\x11\
+    \x11\x11\x11\x11\x11\x00\x01\x4b\x9c\x00\xc6\x6d\x49\x57\x0c\x20\xa6\xf6\xd6\x8a\xcc\x49\x4f\xcd\xdb\x00\x5a\
+    \x81\x57\xae\xaa\x44\x76\x40\x5f\x61\xe1\x3e\x90\x74\x84\xc3\x9f\xe4\x2c\x4a\xeb\x8f\xb8\x8a\x07\x5e\xcf\x44\
+    \x55\x36\xaa\x35\x00\x00\x00\x00\x00\x00\x00\x00\x00\x00\xc0\x53\xf3\xd8\xfd\x13\x16\x96\x8d\x33\x96\xce\xbc\
+    \x56\xe3\x32\x05\x5c\x58\xb9\xba\x82\xc1\x7d\x2f\xa5\xc6\xff\x58\xa3\xea\xed";
+
+// The SHA-256 of the frame in which host a answers with its leaf 0.
+const RESPONSE_DIGEST: [u8; 32] = *b"\
+    \x2a\x91\xa9\x6c\x7a\xcc\x6e\x8e\x9c\xc1\xf7\x4e\xb6\xc1\xb4\xf0\x1a\x34\x3d\x55\x31\xd0\xfe\x5d\x2b\x22\xe7\x79\x5c\x11\xdc\x73";
+
+// Port 9, and the router's tag over the challenge with that port in place of 0.
+const TAG_OF_PORT_9: [u8; 32] = *b"\
+    \xee\x81\x36\xa7\x25\xca\xb8\xf0\xc7\x7f\x36\x80\x24\xf2\x11\x28\x87\x93\x92\xe9\x24\x4d\x17\xce\xf9\x28\x52\x4c\x55\x69\xb0\x83";
+
+// The key of host b.
+const OTHER_KEY: [u8; 56] = *b"\
+    \x00\x00\x00\x05\x00\x00\x00\x03\x14\x0d\xa0\xfb\x3d\x1c\x1d\xc2\xe1\xb7\x16\x13\x6f\x1c\x8d\xb9\xe0\xeb\x65\x3b\
+    \xef\x14\xe7\xd3\xf5\x60\xef\x30\x47\xe8\xf9\x83\x69\x39\x76\x98\x78\xc0\xbf\xc5\x91\x33\xfd\x37\x69\xd9\x1e\xd5";
+
+fn domain() -> Id {
+    Id {
+        bytes: *b"\x01\x11\x11\x11\x11\x11\x11\x11\x11\x11\x11\x11\x11\x11\x11\x11\x11\x11\x11\x00",
+    }
+}
+
+fn address(eid: [u8; 20]) -> Address {
+    Address {
+        ad: domain(),
+        eid: Id { bytes: eid },
+    }
+}
+
+fn router() -> RouterKey {
+    RouterKey {
+        address: address(
+            *b"\x00\xc6\xdc\xb4\xc7\x7c\xf2\x00\xec\xbb\x25\x2a\x5f\x85\x0e\x01\x2c\xc5\xa5\x00",
+        ),
+        master: [0; 32],
+        boot: 0,
+        epoch_length: 60,
+        ports: 3,
+    }
+}
+
+fn host_a() -> Address {
+    address(*b"\x01\x4b\x9c\x00\xc6\x6d\x49\x57\x0c\x20\xa6\xf6\xd6\x8a\xcc\x49\x4f\xcd\xdb\x00")
+}
+
+// The frame in which host a answers the challenge with its leaf 0.
+fn response(alloc: Global) -> Result<Vec<u8>, Fail> {
+    let tree = Tree::build(alloc, &[1; 32], Width::W4, Height::H5)?;
+    let mut signature = vec![in alloc; 0; signature_len(tree.width(), tree.height())]?;
+    tree.sign(0, &response_text(&CHALLENGE), &mut signature);
+    let body = response_body(alloc, &CHALLENGE, &tree.public(), &signature)?;
+    if body.as_slice().len() > 9126 {
+        return Err(Fail::from("a body that fits"));
+    }
+    let frame = Frame {
+        kind: Kind::Response,
+        hop: 64,
+        packet: 1,
+        to: router().address,
+        from: host_a(),
+        body,
+    };
+    Ok(encode(alloc, &frame)?.into_vec())
+}
+
+// How the router judges a response at a time, as a number; 9 for what is no response.
+fn number_at(now: u64, frame: &[u8]) -> u64 {
+    let asks = router();
+    if is_frame(frame) && kind_of(frame) == Kind::Response && asks.epoch_length > 0 {
+        check(&asks, now, frame).number()
+    } else {
+        9
+    }
+}
+
+// The response with other bytes from a place on.
+fn altered(alloc: Global, frame: &[u8], place: usize, bytes: &[u8]) -> Result<Vec<u8>, Fail> {
+    let mut other = Vec::from_slice(alloc, frame)?;
+    for (k, byte) in bytes.iter().enumerate() {
+        if let Some(old) = other.get_mut(place.saturating_add(k)) {
+            *old = *byte;
+        }
+    }
+    Ok(other)
+}
+
+#[test]
+fn a_challenge_is_made_and_read(rt: HostRuntime) {
+    let asks = router();
+    let mut hash = [0; 32];
+    hash.copy_from_slice(&CHALLENGE[80..112]);
+    let body = challenge(&asks, 59, &host_a(), &hash, 0);
+    assert!(rt; body == CHALLENGE);
+    assert!(rt; asked_router(&body) == asks.address);
+    assert!(rt; asked_source(&body) == host_a());
+    assert!(rt; asked_hash(&body) == hash);
+}
+
+#[test]
+fn an_answer_is_proved_for_two_epochs(rt: HostRuntime) -> Result<(), Fail> {
+    let frame = response(rt.alloc())?;
+    assert_eq!(rt; frame.len(), 2648);
+    assert!(rt; Sha256::digest(frame.as_slice()) == RESPONSE_DIGEST);
+    assert_eq!(rt; number_at(0, &frame), 0);
+    assert_eq!(rt; number_at(119, &frame), 0);
+    assert_eq!(rt; number_at(120, &frame), 3);
+    Ok(())
+}
+
+#[test]
+fn each_refusal_comes_in_its_turn(rt: HostRuntime) -> Result<(), Fail> {
+    let alloc = rt.alloc();
+    let frame = response(alloc)?;
+    let rows: [(usize, &[u8], u64); 8] = [
+        (109, b"\x01", 2),
+        (169, b"\x01", 2),
+        (212, b"\x00", 4),
+        (243, b"\x00", 4),
+        (202, b"\x00\x09", 4),
+        (244, &OTHER_KEY, 6),
+        (2647, b"\x00", 7),
+        (300, b"\x00\x00\x00\x01", 7),
+    ];
+    for (place, bytes, number) in rows {
+        let other = altered(alloc, &frame, place, bytes)?;
+        assert_eq!(rt; number_at(0, &other), number);
+    }
+    let ninth = altered(alloc, &frame, 202, b"\x00\x09")?;
+    let ninth = altered(alloc, &ninth, 212, &TAG_OF_PORT_9)?;
+    assert_eq!(rt; number_at(0, &ninth), 5);
+    Ok(())
+}
+
+#[test]
+fn a_response_that_is_cut_is_refused(rt: HostRuntime) -> Result<(), Fail> {
+    let alloc = rt.alloc();
+    let frame = response(alloc)?;
+    for length in [1usize, 89, 90, 91, 243, 299, 300, 301, 2000, 2647] {
+        let mut cut = Vec::from_slice(alloc, &frame)?;
+        cut.truncate(length);
+        assert_eq!(rt; number_at(0, &cut), 9);
+        let body = length.saturating_sub(90) as u16;
+        let mended = altered(alloc, &cut, 88, &body.to_be_bytes())?;
+        let number = if length < 90 {
+            9
+        } else if length < 300 {
+            1
+        } else {
+            7
+        };
+        assert_eq!(rt; number_at(0, &mended), number);
+    }
+    Ok(())
+}
