@@ -1,5 +1,5 @@
 -- What holds of an input that isn't refused.
-use Rattle.std.proofs.Common.{◌≡◌, ℕ, ◌<◌, ◌≤◌, ◌+◌, ◌^◌, ◌==◌, ◌||◌, Bool, true, false, cond, List, length, Result, Ok, Err, refl, arith}
+use Rattle.std.proofs.Common.{◌≡◌, ℕ, ◌<◌, ◌+◌, ◌^◌, ◌==◌, ◌||◌, Bool, true, false, cond, List, length, Result, Ok, Err, refl, arith}
 use Rattle.std.specs.Prelude.{nat_le, nat_lt}
 use Rattle.std.proofs.lemmas.Bool.Decides.{nat_tests}
 use Rattle.domain_routes.specs.declared.Edge.{Edge}
@@ -10,9 +10,9 @@ use Rattle.aip_rules.specs.declared.StepFault.{StepFault}
 use Rattle.aip_rules.specs.declared.StepFault.TheVariants as fault
 use Rattle.aip_rules.specs.State.{ticks_of}
 use Rattle.aip_rules.specs.Reaction.{nothing}
-use Rattle.aip_rules.specs.Step.{ticked, refused_if, most_inputs}
+use Rattle.aip_rules.specs.Step.{refused_if}
 use Rattle.aip_core.specs.Kept.{Kept}
-use Rattle.aip_core.specs.Machine.{kept_outcome, kept_reaction, kept_relinked, LinkIsThere}
+use Rattle.aip_core.specs.Machine.{kept_outcome, kept_relinked, LinkIsThere}
 
 -- a test that refuses an outcome didn't
 not_refused : (test : Bool) (f : StepFault) (outcome : Result Reaction StepFault) (reaction : Reaction) → refused_if test f outcome ≡ Ok reaction → test ≡ false

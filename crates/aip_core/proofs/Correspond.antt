@@ -1,6 +1,6 @@
 -- What is kept, against the trace that it stands for: each part stays true, and the machine's events are the rules'.
-use Rattle.std.proofs.Common.{◌≡◌, ℕ, suc, ◌+◌, ◌^◌, ◌||◌, Bool, true, false, cond, List, [], ◌∷◌, ◌++◌, length, Option, Some, None, Result, Ok, Err, refl, sym, ◌∙◌, ap, subst, arith, IsTrue}
-use Rattle.std.specs.Prelude.{IfOk, nat_le, nat_lt, slice_get}
+use Rattle.std.proofs.Common.{◌≡◌, ℕ, ◌+◌, ◌^◌, ◌||◌, Bool, true, false, cond, List, [], ◌∷◌, ◌++◌, length, Option, Some, None, Result, Ok, Err, refl, sym, ◌∙◌, ap, subst, arith, IsTrue}
+use Rattle.std.specs.Prelude.{nat_le, nat_lt, slice_get}
 use Rattle.std.proofs.lemmas.List.{append-nil, append_assoc}
 use Rattle.aip_addr.specs.declared.ids.Address.{Address}
 use Rattle.aip_frame.specs.declared.frame.Frame.{Frame}
@@ -8,13 +8,12 @@ use Rattle.aip_frame.specs.Frame.{frame_of, frame_bytes, most_body}
 use Rattle.aip_event.specs.declared.event.Event.{Event}
 use Rattle.aip_event.specs.declared.event.Reason.TheVariants as reason
 use Rattle.aip_event.specs.declared.input.Input.{Input}
-use Rattle.aip_event.specs.declared.input.Input.TheVariants.{Tick, Send, Raw, Deliver, Inject, Cut, Mend, Shutoff, Restart, Stop}
+use Rattle.aip_event.specs.declared.input.Input.TheVariants.{Tick, Send, Deliver, Cut, Mend}
 use Rattle.aip_event.specs.declared.input.Target.{Target}
 use Rattle.aip_event.specs.declared.input.Target.TheVariants as target
 use Rattle.aip_topo.specs.Sound.{IsSound}
 use Rattle.aip_topo.specs.declared.topology.Router.{Router}
 use Rattle.aip_topo.specs.declared.topology.Topology.{Topology}
-use Rattle.domain_routes.specs.declared.Edge.{Edge}
 use Rattle.aip_rules.specs.declared.Entry.{Entry}
 use Rattle.aip_rules.specs.declared.Entry.TheVariants.{Taken, Happened}
 use Rattle.aip_rules.specs.declared.Flight.{Flight}
@@ -23,16 +22,16 @@ use Rattle.aip_rules.specs.declared.Seat.{Seat}
 use Rattle.aip_rules.specs.declared.StepFault.{StepFault}
 use Rattle.aip_rules.specs.declared.StepFault.TheVariants as fault
 use Rattle.aip_rules.specs.State.{now_of, input_count, flights_of, flight_at, flight_count, flight_in, is_down, is_fall_of, is_restart_of, ticks_of}
-use Rattle.aip_rules.specs.Nodes.{seats_of, seat_named, router_named, address_named, links_of}
+use Rattle.aip_rules.specs.Nodes.{seats_of, seat_named, router_named, address_named}
 use Rattle.aip_rules.specs.Routes.{links_now}
-use Rattle.aip_rules.specs.Reaction.{nothing, dropped, numbered, put_event, in_put, events_on}
+use Rattle.aip_rules.specs.Reaction.{nothing, dropped, put_event, events_on}
 use Rattle.aip_rules.specs.Router.{Arrival, taken_at_router}
-use Rattle.aip_rules.specs.Host.{handed_down, put_by, taken_at_host, at_host, sent_frame}
-use Rattle.aip_rules.specs.Step.{is_built, most_inputs, refused_if, sent, relinked, arrives_at_router, arrives_at_port, arrives_at_seat, arrives, delivered, outcome_of, reaction_of, events_of, step_of, with_events, after_step}
-use Rattle.aip_rules.specs.Laws.{flights_put, PutAtMostOne}
-use Rattle.aip_rules.proofs.Puts.{AreCalm, IsModest, IsModestOutcome, put_calm, outcome_modest, unless}
+use Rattle.aip_rules.specs.Host.{handed_down, taken_at_host, sent_frame}
+use Rattle.aip_rules.specs.Step.{is_built, most_inputs, refused_if, sent, relinked, arrives_at_router, arrives_at_port, arrives_at_seat, arrives, delivered, outcome_of, reaction_of, events_of, with_events, after_step}
+use Rattle.aip_rules.specs.Laws.{flights_put}
+use Rattle.aip_rules.proofs.Puts.{AreCalm, IsModestOutcome, put_calm, outcome_modest, unless}
 use Rattle.aip_core.specs.Kept.{Kept}
-use Rattle.aip_core.specs.Machine.{taken_over, router_over, port_reached, host_reached, reached, kept_delivered, kept_sent, kept_relinked, kept_outcome, kept_reaction, kept_after, kept_events, kept_next, kept_at_start, links_with, IsKeptStep}
+use Rattle.aip_core.specs.Machine.{taken_over, router_over, port_reached, host_reached, reached, kept_delivered, kept_sent, kept_relinked, kept_outcome, kept_reaction, kept_after, kept_events, kept_next, kept_at_start, IsKeptStep}
 use Rattle.aip_core.specs.StandsFor.{StandsFor, IsStep}
 use Rattle.aip_core.specs.Answers.{IsRefusal, IsKeptRefusal}
 use Rattle.aip_core.specs.declared.engine.StepEnd.{StepEnd}
@@ -197,16 +196,21 @@ step_is kept input after events built sound step = λ topo tr h.
     ∙ ap (λ (r : Result Reaction StepFault). kept_events kept r) (sym reaction) ∙ step.events in
     let next : after ≡ kept_next (kept_of topo tr) input (reaction_of topo tr input) =
     step.after ∙ ap (λ (r : Result Reaction StepFault). kept_next kept input r) reaction ∙ ap (λ (k : Kept). kept_next k input (reaction_of topo tr input)) same in
-    let sound_here : IsSound topo = subst IsSound h.topology sound in
-    (told, subst (λ (k : Kept). StandsFor topo (after_step tr input events) k) (sym next)
-    (next_stands topo tr input (reaction_of topo tr input) events h.up (modest_reaction topo tr input sound_here) told))
+    let sound_here : IsSound topo = subst IsSound h.topology sound in (
+      told,
+      subst (λ (k : Kept). StandsFor topo (after_step tr input events) k) (sym next)
+          (next_stands topo tr input (reaction_of topo tr input) events h.up (modest_reaction topo tr input sound_here) told),
+    )
 
 -- a refusal by what is kept is the rules' refusal, for every trace that is stood for
 pub refusal_is : (kept : Kept) (input : Input) (end : StepEnd) → IsTrue (is_built input) → IsKeptRefusal kept input end → IsRefusal kept input end
-refusal_is kept input (Refused core f) built h = (h.0, λ topo tr stands.
-    let same : kept ≡ kept_of topo tr = is_kept topo tr kept stands in
-    let reaction : kept_reaction kept input ≡ reaction_of topo tr input = ap (λ (k : Kept). kept_reaction k input) same ∙ reaction_is topo tr input built stands.up in
-    ap (λ (r : Result Reaction StepFault). events_of tr r) (sym reaction ∙ h.1))
+refusal_is kept input (Refused core f) built h = (
+  h.0,
+  λ topo tr stands.
+      let same : kept ≡ kept_of topo tr = is_kept topo tr kept stands in
+      let reaction : kept_reaction kept input ≡ reaction_of topo tr input = ap (λ (k : Kept). kept_reaction k input) same ∙ reaction_is topo tr input built stands.up in
+      ap (λ (r : Result Reaction StepFault). events_of tr r) (sym reaction ∙ h.1),
+)
 refusal_is kept input Memory built h = tt
 
 -- what is kept before any input stands for the empty trace

@@ -1,5 +1,5 @@
 -- On the places of keys: what the order of keys finds equal is what the rules find the same.
-use Rattle.std.proofs.Common.{◌≡◌, ℕ, ◌+◌, ◌<◌, ◌&&◌, Bool, true, false, cond, List, [], ◌∷◌, length, map, Option, Some, None, refl, sym, ◌∙◌, ap, arith, ltb}
+use Rattle.std.proofs.Common.{◌≡◌, ℕ, ◌+◌, ◌&&◌, Bool, true, false, cond, List, [], ◌∷◌, length, map, Option, Some, None, refl, sym, ◌∙◌, ap, arith, ltb}
 use Rattle.std.specs.Prelude.{find, position, slice_get, option_and_then}
 use Rattle.std.specs.List.{position_from, position_or_len}
 use Rattle.std.specs.Str.{bytes_eq}
@@ -17,7 +17,7 @@ use Rattle.aip_addr.specs.declared.ids.Address.{Address}
 use Rattle.aip_topo.specs.declared.topology.Domain.{Domain}
 use Rattle.aip_topo.specs.declared.topology.Router.{Router}
 use Rattle.aip_rules.specs.declared.Seat.{Seat}
-use Rattle.aip_rules.specs.Nodes.{is_same_address, router_named, router_with_address, domain_with_ad, seat_named, seat_with_address}
+use Rattle.aip_rules.specs.Nodes.{is_same_address, router_named, router_with_address, domain_with_ad}
 use Rattle.aip_core.specs.Directory.{name_cmp, id_cmp, address_cmp}
 
 -- the order of lists of bytes finds the same bytes equal

@@ -1,6 +1,6 @@
 -- A step by what is kept puts at most one flight, of at most 9,216 bytes.
-use Rattle.std.proofs.Common.{◌≡◌, ℕ, ◌+◌, ◌≤◌, ◌^◌, ◌==◌, ◌||◌, Bool, true, false, cond, List, length, ◌++◌, Option, Some, None, Result, Ok, Err, refl, subst, sym, arith, IsTrue, lit≤}
-use Rattle.std.specs.Prelude.{IfOk, IfSome, nat_le, nat_lt, slice_get}
+use Rattle.std.proofs.Common.{◌≡◌, ℕ, ◌+◌, ◌≤◌, ◌^◌, ◌==◌, ◌||◌, cond, List, length, Option, Some, None, Result, Ok, Err, subst, sym, arith, lit≤}
+use Rattle.std.specs.Prelude.{IfSome, nat_le, nat_lt, slice_get}
 use Rattle.std.proofs.lemmas.List.{length-append}
 use Rattle.aip_addr.specs.declared.ids.Address.{Address}
 use Rattle.aip_frame.specs.declared.frame.Frame.{Frame}
@@ -26,12 +26,12 @@ use Rattle.aip_rules.specs.Reaction.{nothing, dropped, numbered, in_put}
 use Rattle.aip_rules.specs.Routes.{port_over}
 use Rattle.aip_rules.specs.Router.{Arrival, passed}
 use Rattle.aip_rules.specs.Host.{handed_down, sent_frame}
-use Rattle.aip_rules.specs.Step.{most_inputs, refused_if}
+use Rattle.aip_rules.specs.Step.{most_inputs}
 use Rattle.aip_rules.specs.Laws.{PutAtMostOne}
 use Rattle.aip_rules.proofs.Sizes.{IsSizedAddress, HasSizedAddress, seat_sized, address_sized}
 use Rattle.aip_rules.proofs.Puts.{IsModest, IsModestOutcome, nothing_modest, dropped_modest, either, unless, where_allowed, passed_modest, host_modest, handed_modest, sent_short, modest_puts}
 use Rattle.aip_core.specs.Kept.{Kept}
-use Rattle.aip_core.specs.Machine.{frame_over, taken_over, router_over, port_reached, host_reached, reached, kept_delivered, kept_sent, kept_relinked, kept_outcome, kept_reaction, kept_after, kept_events, kept_next, IsKeptStep}
+use Rattle.aip_core.specs.Machine.{frame_over, taken_over, router_over, port_reached, host_reached, reached, kept_delivered, kept_sent, kept_outcome, kept_reaction, kept_events, kept_next, IsKeptStep}
 
 frame_modest : (topo : Topology) (links : List Edge) (at : Arrival) (bytes : List ℕ) (frame : Frame) → IsFrame bytes frame → IsModest (frame_over topo links at frame)
 frame_modest topo links at bytes frame is =

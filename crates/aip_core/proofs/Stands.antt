@@ -1,13 +1,12 @@
 -- A sound topology can be run: its hosts, links and neighbours are at its routers.
-use Rattle.std.proofs.Common.{◌≡◌, ℕ, ◌+◌, ◌<◌, ◌≤◌, Bool, true, false, List, [], ◌∷◌, ◌++◌, length, cond, refl, sym, subst, arith, eqb}
-use Rattle.std.specs.Prelude.{All, count_by, Vec}
+use Rattle.std.proofs.Common.{◌≡◌, ℕ, ◌+◌, ◌<◌, ◌≤◌, Bool, true, false, List, [], ◌∷◌, length, cond, refl, sym, subst, arith, eqb}
+use Rattle.std.specs.Prelude.{All, count_by}
 use Rattle.std.specs.List.{AllByRecursion}
-use Rattle.std.specs.declared.alloc.Global.{Global}
 use Rattle.std.proofs.lemmas.List.{length-map}
 use Rattle.std.proofs.lemmas.List.Sums.{sum_by-cons}
 use Rattle.std.proofs.lemmas.List.Elements.{All-nil, All-cons, All-head, All-tail, All-append}
 use Rattle.domain_routes.specs.declared.Edge.{Edge}
-use Rattle.domain_routes.specs.Walks.{JoinsRouters, IsSound as IsSoundGraph}
+use Rattle.domain_routes.specs.Walks.{IsSound as IsSoundGraph}
 use Rattle.aip_topo.specs.declared.topology.Topology.{Topology}
 use Rattle.aip_topo.specs.declared.topology.Router.{Router}
 use Rattle.aip_topo.specs.declared.topology.Part.{Part}

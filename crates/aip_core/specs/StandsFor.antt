@@ -1,5 +1,5 @@
 -- The trace that a core stands for.
-use Rattle.std.specs.Prelude.{◌≡◌, ℕ, false, List, Ok, Err}
+use Rattle.std.specs.Prelude.{◌≡◌, ℕ, false, List, Ok}
 use Rattle.aip_event.specs.declared.event.Event.{Event}
 use Rattle.aip_event.specs.declared.input.Input.{Input}
 use Rattle.aip_topo.specs.declared.topology.Topology.{Topology}

@@ -100,10 +100,7 @@ fn router_names(alloc: Global, routers: &[Router]) -> Result<BTreeMap<Name, u16>
     places_of(alloc, &names)
 }
 
-fn router_addresses(
-    alloc: Global,
-    routers: &[Router],
-) -> Result<BTreeMap<Address, u16>, AllocError>
+fn router_addresses(alloc: Global, routers: &[Router]) -> Result<BTreeMap<Address, u16>, AllocError>
     requires { length routers.now ≤ 65536 }
     ensures { IfOk result (λ places. (address : Place) →
         get address_cmp places address ≡ router_with_address routers.now address) }
@@ -156,11 +153,7 @@ fn goal_inside(router: Option<u16>, seat: Option<Seat>) -> Option<Goal>
 
 impl Directory {
     /// The directory of a topology, whose hosts are at these ports. The only error is want of memory.
-    pub fn new(
-        alloc: Global,
-        topology: Topology,
-        seats: Vec<Seat>,
-    ) -> Result<Directory, AllocError>
+    pub fn new(alloc: Global, topology: Topology, seats: Vec<Seat>) -> Result<Directory, AllocError>
         requires domains { length topology.domains ≤ 64 }
         requires routers { length topology.routers ≤ 256 }
         requires few { length seats.items ≤ 65536 }

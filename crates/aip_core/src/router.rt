@@ -90,12 +90,7 @@ fn port_over(
 }
 
 // What a frame goes towards that is put towards what lies at a port of the router.
-fn towards(
-    directory: &Directory,
-    neighbour: Option<Neighbour>,
-    router: u16,
-    port: u16,
-) -> Target
+fn towards(directory: &Directory, neighbour: Option<Neighbour>, router: u16, port: u16) -> Target
     requires there { router < length directory.now.routers }
     requires leads { IfSome neighbour (LeadsBelow (length directory.now.routers)) }
     ensures { result ≡ target_towards directory.now.routers neighbour router port }
@@ -174,7 +169,7 @@ fn pass(
     ensures same { wiring.new ≡ wiring.old }
     ensures reaction { IfOk result (λ reaction. IfSome (frame_of bytes.now) (λ frame.
         reaction ≡ passed directory.now (record { place = at.now.place; self = at.now.own; port = at.now.port }) frame
-            (port_over directory.now wiring.old.links at.now.place at.now.own frame.to))) }
+        (port_over directory.now wiring.old.links at.now.place at.now.own frame.to))) }
 {
     match port_over(alloc, directory, wiring, at.place, &at.own, &to_of(bytes))? {
         Some(out) => {

@@ -1,7 +1,6 @@
 -- The trace of a run is that of the inputs on the lines before the one that ends it.
-use Rattle.std.proofs.Common.{◌≡◌, ℕ, zero, suc, ◌+◌, ◌-◌, ◌<◌, ◌≤◌, Bool, true, false, cond, List, [], ◌∷◌, ◌++◌, length, take, Option, Some, None, Result, Ok, Err, refl, ap, ◌∙◌, arith, subst, sym}
-use Rattle.std.specs.Prelude.{nat_lt}
-use Rattle.aip_text.specs.Lines.{lines_of, is_skipped, has_carriage_return}
+use Rattle.std.proofs.Common.{◌≡◌, ℕ, suc, ◌+◌, ◌-◌, ◌≤◌, Bool, true, false, cond, List, [], ◌∷◌, ◌++◌, take, Option, Some, None, Result, Ok, Err, refl, ap, ◌∙◌, arith}
+use Rattle.aip_text.specs.Lines.{lines_of, is_skipped}
 use Rattle.aip_event.specs.declared.event.Event.{Event}
 use Rattle.aip_event.specs.declared.input.Input.{Input}
 use Rattle.aip_event.specs.Reading.{input_of}
@@ -10,7 +9,7 @@ use Rattle.aip_rules.specs.declared.Entry.{Entry}
 use Rattle.aip_rules.specs.declared.StepFault.{StepFault}
 use Rattle.aip_rules.specs.declared.StepFault.TheVariants as fault
 use Rattle.aip_rules.specs.Step.{is_built, step_of, after_step, trace_from, goes_on}
-use Rattle.aip_rules.specs.Texts.{Ending, Done, Topology_refused, Schedule_refused, Topology_unbuilt, Input_unbuilt, Ran, scheduled, input_or_form, most_lines, most_line_bytes, by_step, by_input, by_line, ran_from, ran, lines_before, inputs_in_line, inputs_in, IsTraceOfLines}
+use Rattle.aip_rules.specs.Texts.{Ending, Done, Topology_refused, Schedule_refused, Topology_unbuilt, Input_unbuilt, Ran, scheduled, input_or_form, by_step, by_input, by_line, ran_from, lines_before, inputs_in_line, inputs_in, IsTraceOfLines}
 
 -- the run ends at a line from this one on, or at none
 abbrev pub EndsFrom : ℕ → Ending → Type 0

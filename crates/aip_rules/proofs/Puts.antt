@@ -1,6 +1,6 @@
 -- An input puts at most one flight, of at most 9,216 bytes.
-use Rattle.std.proofs.Common.{◌≡◌, ℕ, ◌+◌, ◌-◌, ◌^◌, ◌==◌, ◌||◌, ◌<◌, ◌≤◌, Bool, true, false, cond, List, [], ◌∷◌, ◌++◌, length, Option, Some, None, Result, Ok, Err, refl, ap, ◌∙◌, arith, lit<, lit≤, subst, sym}
-use Rattle.std.specs.Prelude.{IfOk, IfSome, nat_le, nat_lt, slice_get, All}
+use Rattle.std.proofs.Common.{◌≡◌, ℕ, ◌+◌, ◌^◌, ◌==◌, ◌||◌, ◌<◌, ◌≤◌, Bool, true, false, cond, List, [], ◌∷◌, ◌++◌, length, Option, Some, None, Result, Ok, Err, refl, ap, ◌∙◌, arith, lit<, lit≤, subst, sym}
+use Rattle.std.specs.Prelude.{IfOk, IfSome, nat_le, nat_lt, All}
 use Rattle.std.proofs.lemmas.Bool.Decides.{nat_tests}
 use Rattle.std.proofs.lemmas.List.Elements.{All-nil, All-cons}
 use Rattle.aip_addr.specs.declared.ids.Address.{Address}
@@ -11,7 +11,6 @@ use Rattle.aip_frame.specs.Frame.{frame_of, frame_bytes, most_body, IsFrame}
 use Rattle.aip_frame.proofs.Frames.{sound as frame_sound}
 use Rattle.aip_event.specs.declared.event.Event.{Event}
 use Rattle.aip_event.specs.declared.event.Reason.TheVariants as reason
-use Rattle.aip_event.specs.declared.event.Cause.TheVariants.{Open}
 use Rattle.aip_event.specs.declared.input.Input.{Input}
 use Rattle.aip_event.specs.declared.input.Input.TheVariants.{Tick, Send, Raw, Deliver, Inject, Cut, Mend, Shutoff, Restart, Stop, Halt, Publish}
 use Rattle.aip_event.specs.declared.input.Target.{Target}
@@ -26,12 +25,12 @@ use Rattle.aip_rules.specs.declared.Seat.{Seat}
 use Rattle.aip_rules.specs.declared.StepFault.{StepFault}
 use Rattle.aip_rules.specs.declared.StepFault.TheVariants as fault
 use Rattle.aip_rules.specs.State.{flight_in, flight_at, flight_count, is_down, is_fall_of, now_of, input_count}
-use Rattle.aip_rules.specs.Nodes.{seats_of, seat_named, router_named, address_named, is_same_address, has_key, neighbours_of, links_of, target_at}
+use Rattle.aip_rules.specs.Nodes.{seats_of, seat_named, router_named, address_named, is_same_address, has_key, neighbours_of, links_of}
 use Rattle.aip_rules.specs.Routes.{port_to}
-use Rattle.aip_rules.specs.Reaction.{nothing, dropped, puts, happens, put_event, numbered, events_on, in_put}
-use Rattle.aip_rules.specs.Router.{Arrival, one_hop_less, forwarded, passed, frame_at_router, taken_at_router}
+use Rattle.aip_rules.specs.Reaction.{nothing, dropped, puts, happens, put_event, numbered, in_put}
+use Rattle.aip_rules.specs.Router.{Arrival, one_hop_less, passed, frame_at_router, taken_at_router}
 use Rattle.aip_rules.specs.Host.{sent_frame, handed_down, put_by, kind_at_host, taken_at_host, at_host}
-use Rattle.aip_rules.specs.Step.{most_bytes, most_inputs, can_be_put, refused_if, ticked, sent, put_raw, arrives_at_router, arrives_at_port, arrives_at_seat, arrives, delivered, injected_at_port, injected_at_host, injected, relinked, is_named_frame, shut_off, restarted, stop_armed, outcome_of, reaction_of, events_of, step_of}
+use Rattle.aip_rules.specs.Step.{most_bytes, most_inputs, can_be_put, refused_if, sent, put_raw, arrives_at_router, arrives_at_port, arrives_at_seat, arrives, delivered, injected_at_port, injected_at_host, injected, relinked, is_named_frame, shut_off, restarted, stop_armed, halt_armed, published, outcome_of, reaction_of, events_of}
 use Rattle.aip_rules.specs.Laws.{flights_put, IsShort, PutAtMostOne, InputsPutAtMostOne}
 use Rattle.aip_rules.proofs.Sizes.{IsSizedAddress, HasSizedAddress, seat_sized, address_sized, fitting_short}
 
@@ -78,7 +77,14 @@ one_less_short bytes frame is =
     let f = is.fits in
     let hop = f.hop in
     fitting_short (one_hop_less frame) (record {
-      hop = omega arith; packet = f.packet; to_ad = f.to_ad; to_eid = f.to_eid; from_ad = f.from_ad; from_eid = f.from_eid; body = f.body; challenge = f.challenge;
+      hop = omega arith;
+      packet = f.packet;
+      to_ad = f.to_ad;
+      to_eid = f.to_eid;
+      from_ad = f.from_ad;
+      from_eid = f.from_eid;
+      body = f.body;
+      challenge = f.challenge;
     })
 
 -- a frame that passes, towards a port or none
@@ -170,7 +176,14 @@ pub sent_short : (to from : Address) (packet : ℕ) (body : List ℕ) → IsSize
 sent_short to from packet body t f e =
     let size = fits_body packet (length body) e in
     fitting_short (sent_frame to from packet body) (record {
-      hop = lit< tt; packet = size.0; to_ad = t.ad; to_eid = t.eid; from_ad = f.ad; from_eid = f.eid; body = size.1; challenge = λ no_challenge. cc;
+      hop = lit< tt;
+      packet = size.0;
+      to_ad = t.ad;
+      to_eid = t.eid;
+      from_ad = f.ad;
+      from_eid = f.eid;
+      body = size.1;
+      challenge = λ no_challenge. cc;
     })
 
 sent_modest : (topo : Topology) (tr : List Entry) (seat : Option Seat) (to : Option Address) (packet : ℕ) (body : List ℕ)
@@ -225,6 +238,14 @@ armed_modest topo (Some seat) call byte =
     unless ((call == 0) || (nat_lt 2 call || nat_le 256 byte)) fault.Range _
     (λ e. where_allowed (has_key topo.parts seat.name) fault.Keyless (Ok nothing) (λ e. nothing_modest))
 
+halt_modest : (seat : Option Seat) (call byte : ℕ) → IsModestOutcome (halt_armed seat call byte)
+halt_modest None call byte = tt
+halt_modest (Some seat) call byte =
+    unless ((call == 0) || (nat_lt 4 call || nat_le 256 byte)) fault.Range (Ok nothing) (λ e. nothing_modest)
+
+published_modest : (bytes : List ℕ) → IsModestOutcome (published bytes)
+published_modest bytes = unless (nat_lt most_bytes (length bytes)) fault.Range (Ok nothing) (λ e. nothing_modest)
+
 -- what comes of an input is modest
 pub outcome_modest : (topo : Topology) (tr : List Entry) (input : Input) → IsSound topo → IsModestOutcome (outcome_of topo tr input)
 outcome_modest topo tr (Tick ticks) sound = unless ((ticks == 0) || nat_le (2 ^ 48) (now_of tr + ticks)) fault.Range (Ok nothing) (λ e. nothing_modest)
@@ -238,8 +259,8 @@ outcome_modest topo tr (Mend link) sound = relinked_modest topo link
 outcome_modest topo tr (Shutoff host flight ttl) sound = shut_modest topo (seat_named (seats_of topo) host) (flight_at tr flight) ttl
 outcome_modest topo tr (Restart node) sound = restarted_modest (address_named topo node)
 outcome_modest topo tr (Stop host call byte) sound = armed_modest topo (seat_named (seats_of topo) host) call byte
-outcome_modest topo tr (Halt host call byte) sound = nothing_modest
-outcome_modest topo tr (Publish bytes) sound = nothing_modest
+outcome_modest topo tr (Halt host call byte) sound = halt_modest (seat_named (seats_of topo) host) call byte
+outcome_modest topo tr (Publish bytes) sound = published_modest bytes
 
 -- the flights that calm events with a put behind them put
 pub put_calm : (events : List Event) (number : ℕ) (put : Option Flight) → AreCalm events → flights_put (events ++ put_event number put) ≡ in_put put

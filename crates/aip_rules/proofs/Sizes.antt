@@ -1,16 +1,15 @@
 -- How long ids, addresses and frames are.
-use Rattle.std.proofs.Common.{◌≡◌, ℕ, zero, suc, ◌+◌, ◌-◌, ◌<◌, ◌≤◌, Bool, true, false, cond, List, [], ◌∷◌, ◌++◌, length, Option, Some, None, refl, subst, sym, ap, arith, lit≤}
+use Rattle.std.proofs.Common.{◌≡◌, ℕ, zero, suc, ◌-◌, ◌<◌, ◌≤◌, Bool, true, false, cond, List, [], ◌∷◌, ◌++◌, length, Option, Some, None, subst, sym, arith}
 use Rattle.std.specs.Prelude.{find, slice_get, slice_index, IfSome}
 use Rattle.std.specs.List.{AllByRecursion}
 use Rattle.std.proofs.lemmas.List.{length-append, length-take}
 use Rattle.std.specs.Prelude.{codes, take}
 use Rattle.sha2.specs.Sha256.{sha256}
 use Rattle.sha2.proofs.Facts256.{length-sha256}
-use Rattle.aip_addr.specs.Ids.{address_bytes, id_of_router}
+use Rattle.aip_addr.specs.Ids.{id_of_router}
 use Rattle.aip_addr.specs.declared.ids.Id.{Id}
 use Rattle.aip_addr.specs.declared.ids.Address.{Address}
 use Rattle.aip_frame.specs.declared.frame.Frame.{Frame}
-use Rattle.aip_frame.specs.declared.frame.Kind.{Kind}
 use Rattle.aip_frame.specs.Frame.{frame_bytes, most_body, kind_at, Fits}
 use Rattle.aip_frame.proofs.Spelled.{form_again}
 use Rattle.aip_frame.proofs.Fitting.{body_fits_parts}
@@ -22,7 +21,7 @@ use Rattle.aip_topo.specs.declared.topology.Part.{Part}
 use Rattle.aip_topo.specs.declared.topology.Part.TheVariants.{Host, Link}
 use Rattle.aip_topo.specs.declared.topology.Topology.{Topology}
 use Rattle.aip_rules.specs.declared.Seat.{Seat}
-use Rattle.aip_rules.specs.Nodes.{ad_of, host_address, seats_after, seats_of, seat_named, address_of_node, address_named}
+use Rattle.aip_rules.specs.Nodes.{ad_of, seats_after, seats_of, seat_named, address_of_node, address_named}
 
 -- an id of 20 bytes
 abbrev pub IsSizedId : Id → Type 0

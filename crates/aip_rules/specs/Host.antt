@@ -1,10 +1,10 @@
 -- What happens at a host: what it hands down, and where a flight arrives at it.
-use Rattle.std.specs.Prelude.{ℕ, Bool, true, false, if◌then◌else◌, List, Option, Some, None}
+use Rattle.std.specs.Prelude.{ℕ, if◌then◌else◌, List, Option, Some, None}
 use Rattle.aip_addr.specs.declared.ids.Address.{Address}
 use Rattle.aip_frame.specs.declared.frame.Kind.{Kind}
 use Rattle.aip_frame.specs.declared.frame.Kind.TheVariants.{Data, Challenge, Response, ShutOff}
 use Rattle.aip_frame.specs.declared.frame.Frame.{Frame}
-use Rattle.aip_frame.specs.Frame.{frame_bytes, frame_of}
+use Rattle.aip_frame.specs.Frame.{frame_of}
 use Rattle.aip_event.specs.declared.event.Event.TheVariants.{Got}
 use Rattle.aip_event.specs.declared.event.Reason.TheVariants as reason
 use Rattle.aip_event.specs.declared.input.Target.TheVariants as target

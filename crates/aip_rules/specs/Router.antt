@@ -1,5 +1,5 @@
 -- What happens where a flight arrives at a router.
-use Rattle.std.specs.Prelude.{ℕ, ◌-◌, Bool, true, false, if◌then◌else◌, nat_le, List, Option, Some, None}
+use Rattle.std.specs.Prelude.{ℕ, ◌-◌, if◌then◌else◌, nat_le, List, Option, Some, None}
 use Rattle.aip_frame.specs.declared.frame.Frame.{Frame}
 use Rattle.aip_frame.specs.Frame.{frame_bytes, frame_of}
 use Rattle.aip_event.specs.declared.event.Event.TheVariants.{Forward}

@@ -5,7 +5,7 @@ use Rattle.std.specs.Str.{bytes_eq}
 use Rattle.aip_event.specs.declared.input.Input.{Input}
 use Rattle.aip_event.specs.declared.input.Input.TheVariants.{Tick, Cut, Mend, Restart}
 use Rattle.aip_event.specs.declared.event.Event.{Event}
-use Rattle.aip_event.specs.declared.event.Event.TheVariants.{Put, Stopped}
+use Rattle.aip_event.specs.declared.event.Event.TheVariants.{Put, Stopped, Halted}
 use Rattle.aip_rules.specs.declared.Entry.{Entry}
 use Rattle.aip_rules.specs.declared.Entry.TheVariants.{Taken, Happened}
 use Rattle.aip_rules.specs.declared.Flight.{Flight}
@@ -76,6 +76,7 @@ is_up (Happened event ∷ tr) l = is_up tr l
 -- the event brings the host of this name down: a stop of one of its disks was met
 abbrev pub is_fall_of : Event → List ℕ → Bool
 is_fall_of (Stopped host leaf call byte) name = bytes_eq host name
+is_fall_of (Halted host sender until call byte) name = bytes_eq host name
 is_fall_of _ name = false
 
 -- the host of this name is down: since its last restart a stop of one of its disks was met

@@ -147,6 +147,17 @@ stop_armed topo (Some seat) call byte =
     refused_if ((call == 0) || (nat_lt 2 call || nat_le 256 byte)) fault.Range
     (if has_key topo.parts seat.name then Ok nothing else Err fault.Keyless)
 
+-- a halt of the disk on which a host keeps shut-offs is armed: the host is known, whether it is guarded or not, the call is
+-- 1 to 4, and the byte is one
+abbrev pub halt_armed : Option Seat → ℕ → ℕ → Result Reaction StepFault
+halt_armed None call byte = Err fault.Unknown
+halt_armed (Some seat) call byte =
+    refused_if ((call == 0) || (nat_lt 4 call || nat_le 256 byte)) fault.Range (Ok nothing)
+
+-- a record is published: it has no more bytes than can be put at once
+abbrev pub published : List ℕ → Result Reaction StepFault
+published bytes = refused_if (nat_lt most_bytes (length bytes)) fault.Range (Ok still_to_come)
+
 -- what comes of an input, where one more may be taken: the first fault that applies, or a reaction
 abbrev pub outcome_of : Topology → List Entry → Input → Result Reaction StepFault
 outcome_of topo tr (Tick ticks) = ticked (now_of tr) ticks
@@ -161,8 +172,8 @@ outcome_of topo tr (Shutoff host flight ttl) =
     shut_off topo (seat_named (seats_of topo) host) (flight_at tr flight) ttl
 outcome_of topo tr (Restart node) = restarted (address_named topo node)
 outcome_of topo tr (Stop host call byte) = stop_armed topo (seat_named (seats_of topo) host) call byte
-outcome_of topo tr (Halt host call byte) = Ok still_to_come
-outcome_of topo tr (Publish bytes) = Ok still_to_come
+outcome_of topo tr (Halt host call byte) = halt_armed (seat_named (seats_of topo) host) call byte
+outcome_of topo tr (Publish bytes) = published bytes
 
 -- the most inputs of a trace
 abbrev pub most_inputs : ℕ

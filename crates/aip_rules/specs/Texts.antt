@@ -8,7 +8,6 @@ use Rattle.aip_event.specs.declared.event.Event.{Event}
 use Rattle.aip_event.specs.Lines.{input_line, event_line}
 use Rattle.aip_event.specs.Reading.{input_of}
 use Rattle.aip_topo.specs.declared.topology.Router.{Router}
-use Rattle.aip_topo.specs.declared.topology.HostPart.{HostPart}
 use Rattle.aip_topo.specs.declared.topology.Part.{Part}
 use Rattle.aip_topo.specs.declared.topology.Part.TheVariants.{Host, Link}
 use Rattle.aip_topo.specs.declared.topology.Topology.{Topology}

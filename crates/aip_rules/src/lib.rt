@@ -8,10 +8,9 @@ ghost use Rattle.std.specs.Prelude.{◌≡◌};
 
 mod laws;
 
-pub use laws::{a_run_has_the_trace_of_its_lines, an_input_puts_at_most_one_flight};
-
 use aip_addr::{Address, Bytes, Name};
 use aip_event::{Event, Events, Input, Target};
+pub use laws::{a_run_has_the_trace_of_its_lines, an_input_puts_at_most_one_flight};
 use thiserror::Error;
 
 /// An entry of a trace: an input that was taken, or an event that came of the input below it.

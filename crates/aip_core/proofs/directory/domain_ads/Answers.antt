@@ -1,9 +1,8 @@
-use Rattle.std.proofs.Common.{rules, ◌≡◌, ◌∙◌, ap, List, ℕ, map}
+use Rattle.std.proofs.Common.{◌∙◌, ap, List}
 use Rattle.std.specs.List.{position_from}
 use Rattle.std.specs.Ordering.{is_eq}
 use Rattle.std.proofs.lemmas.Result.{IfOk-weaker}
 use Rattle.aip_addr.specs.declared.ids.Id.{Id}
-use Rattle.aip_topo.specs.declared.topology.Domain.{Domain}
 use Rattle.aip_core.specs.Directory.{id_cmp}
 use Rattle.aip_core.proofs.Keys.{domain_by_ad}
 use Rattle.aip_core.proofs.directory.domain_ads.Goals as goal

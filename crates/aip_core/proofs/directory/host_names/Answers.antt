@@ -1,8 +1,7 @@
-use Rattle.std.proofs.Common.{rules, ◌≡◌, ◌∙◌, ap, List, ℕ, map}
+use Rattle.std.proofs.Common.{◌∙◌, ap, List, ℕ}
 use Rattle.std.specs.List.{position_from}
 use Rattle.std.specs.Ordering.{is_eq}
 use Rattle.std.proofs.lemmas.Result.{IfOk-weaker}
-use Rattle.aip_rules.specs.declared.Seat.{Seat}
 use Rattle.aip_core.specs.Directory.{name_cmp}
 use Rattle.aip_core.proofs.Keys.{host_by_name}
 use Rattle.aip_core.proofs.directory.host_names.Goals as goal

@@ -1,9 +1,8 @@
-use Rattle.std.proofs.Common.{rules, ◌≡◌, ◌∙◌, ap, List, ℕ, map}
+use Rattle.std.proofs.Common.{◌∙◌, ap, List}
 use Rattle.std.specs.List.{position_from}
 use Rattle.std.specs.Ordering.{is_eq}
 use Rattle.std.proofs.lemmas.Result.{IfOk-weaker}
 use Rattle.aip_addr.specs.declared.ids.Address.{Address}
-use Rattle.aip_topo.specs.declared.topology.Router.{Router}
 use Rattle.aip_core.specs.Directory.{address_cmp}
 use Rattle.aip_core.proofs.Keys.{router_by_address}
 use Rattle.aip_core.proofs.directory.router_addresses.Goals as goal

@@ -1,4 +1,3 @@
-use Rattle.std.proofs.Common.{◌≡◌, ◌∙◌, ap, List}
 use Rattle.std.specs.Str.{bytes_eq}
 use Rattle.aip_topo.specs.declared.topology.Router.{Router}
 use Rattle.aip_core.proofs.Keys.{looked_up}

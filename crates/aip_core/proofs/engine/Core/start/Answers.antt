@@ -1,4 +1,4 @@
-use Rattle.std.proofs.Common.{◌≡◌, ◌∙◌, ◌<◌, ◌≤◌, List, [], length, ap, sym, subst, lit<, lit≤}
+use Rattle.std.proofs.Common.{◌≡◌, ◌∙◌, ◌≤◌, List, [], length, ap, sym, subst, lit<, lit≤}
 use Rattle.std.specs.Prelude.{All}
 use Rattle.aip_topo.specs.declared.topology.Part.{Part}
 use Rattle.aip_topo.specs.declared.topology.Router.{Router}

@@ -1,4 +1,3 @@
-use Rattle.std.proofs.Common.{ℕ, ◌+◌, ◌≤◌, List, length}
 use Rattle.std.proofs.lemmas.Result.{IfOk-weaker, IfErr-weaker}
 use Rattle.aip_core.proofs.Correspond.{step_is, refusal_is}
 use Rattle.aip_core.proofs.Modest.{step_puts, step_adds}
