@@ -26,12 +26,12 @@ use Rattle.aip_rules.specs.Nodes.{seats_of, seat_named, router_named, address_na
 use Rattle.aip_rules.specs.Routes.{links_now}
 use Rattle.aip_rules.specs.Reaction.{nothing, dropped, put_event, events_on}
 use Rattle.aip_rules.specs.Router.{Arrival, taken_at_router}
-use Rattle.aip_rules.specs.Host.{handed_down, taken_at_host, sent_frame}
+use Rattle.aip_rules.specs.Host.{sent_frame}
 use Rattle.aip_rules.specs.Step.{is_built, most_inputs, refused_if, sent, relinked, arrives_at_router, arrives_at_port, arrives_at_seat, arrives, delivered, outcome_of, reaction_of, events_of, with_events, after_step}
 use Rattle.aip_rules.specs.Laws.{flights_put}
 use Rattle.aip_rules.proofs.Puts.{AreCalm, IsModestOutcome, put_calm, outcome_modest, unless}
 use Rattle.aip_core.specs.Kept.{Kept}
-use Rattle.aip_core.specs.Machine.{taken_over, router_over, port_reached, host_reached, reached, kept_delivered, kept_sent, kept_relinked, kept_outcome, kept_reaction, kept_after, kept_events, kept_next, kept_at_start, IsKeptStep}
+use Rattle.aip_core.specs.Machine.{hands_down, seat_reached, taken_over, router_over, port_reached, host_reached, reached, kept_delivered, kept_sent, kept_relinked, kept_outcome, kept_reaction, kept_after, kept_events, kept_next, kept_at_start, IsKeptStep}
 use Rattle.aip_core.specs.StandsFor.{StandsFor, IsStep}
 use Rattle.aip_core.specs.Answers.{IsRefusal, IsKeptRefusal}
 use Rattle.aip_core.specs.declared.engine.StepEnd.{StepEnd}
@@ -62,12 +62,12 @@ sent_is topo tr None to packet body up = refl
 sent_is topo tr (Some seat) None packet body up = refl
 sent_is topo tr (Some seat) (Some to) packet body up =
     let bytes = frame_bytes (sent_frame to seat.address packet body) in
-    ap (λ b. refused_if (nat_le (2 ^ 32) packet || nat_lt most_body (length body)) fault.Range (Ok (cond b (dropped seat.name reason.Down) (handed_down topo seat bytes)))) (sym (up seat.name))
+    ap (λ b. refused_if (nat_le (2 ^ 32) packet || nat_lt most_body (length body)) fault.Range (Ok (cond b (dropped seat.name reason.Down) (hands_down topo seat bytes)))) (sym (up seat.name))
 
 -- bytes at a host that is up
-host_is : (topo : Topology) (tr : List Entry) (seat : Option Seat) (bytes : List ℕ) → AllUp tr → host_reached seat bytes ≡ arrives_at_seat tr seat bytes
+host_is : (topo : Topology) (tr : List Entry) (seat : Option Seat) (bytes : List ℕ) → AllUp tr → host_reached seat bytes ≡ arrives_at_seat topo tr seat bytes
 host_is topo tr None bytes up = refl
-host_is topo tr (Some seat) bytes up = ap (λ b. cond b (dropped seat.name reason.Down) (taken_at_host seat (frame_of bytes))) (sym (up seat.name))
+host_is topo tr (Some seat) bytes up = ap (λ b. cond b (dropped seat.name reason.Down) (seat_reached seat (frame_of bytes))) (sym (up seat.name))
 
 -- bytes at a router
 taken_is : (topo : Topology) (tr : List Entry) (at : Arrival) (frame : Option Frame) → taken_over topo (links_now topo tr) at frame ≡ taken_at_router topo tr at frame

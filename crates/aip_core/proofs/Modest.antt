@@ -1,5 +1,5 @@
 -- A step by what is kept puts at most one flight, of at most 9,216 bytes.
-use Rattle.std.proofs.Common.{◌≡◌, ℕ, ◌+◌, ◌≤◌, ◌^◌, ◌==◌, ◌||◌, cond, List, length, Option, Some, None, Result, Ok, Err, subst, sym, arith, lit≤}
+use Rattle.std.proofs.Common.{◌≡◌, ℕ, ◌+◌, ◌≤◌, ◌^◌, ◌==◌, ◌||◌, cond, List, [], length, Option, Some, None, Result, Ok, Err, subst, sym, arith, lit≤}
 use Rattle.std.specs.Prelude.{IfSome, nat_le, nat_lt, slice_get}
 use Rattle.std.proofs.lemmas.List.{length-append}
 use Rattle.aip_addr.specs.declared.ids.Address.{Address}
@@ -24,23 +24,23 @@ use Rattle.aip_rules.specs.declared.StepFault.TheVariants as fault
 use Rattle.aip_rules.specs.Nodes.{seats_of, seat_named, router_named, address_named, is_same_address}
 use Rattle.aip_rules.specs.Reaction.{nothing, dropped, numbered, in_put}
 use Rattle.aip_rules.specs.Routes.{port_over}
-use Rattle.aip_rules.specs.Router.{Arrival, passed}
-use Rattle.aip_rules.specs.Host.{handed_down, sent_frame}
+use Rattle.aip_rules.specs.Router.{Arrival}
+use Rattle.aip_rules.specs.Host.{sent_frame}
 use Rattle.aip_rules.specs.Step.{most_inputs}
 use Rattle.aip_rules.specs.Laws.{PutAtMostOne}
 use Rattle.aip_rules.proofs.Sizes.{IsSizedAddress, HasSizedAddress, seat_sized, address_sized}
 use Rattle.aip_rules.proofs.Puts.{IsModest, IsModestOutcome, nothing_modest, dropped_modest, either, unless, where_allowed, passed_modest, host_modest, handed_modest, sent_short, modest_puts}
 use Rattle.aip_core.specs.Kept.{Kept}
-use Rattle.aip_core.specs.Machine.{frame_over, taken_over, router_over, port_reached, host_reached, reached, kept_delivered, kept_sent, kept_outcome, kept_reaction, kept_events, kept_next, IsKeptStep}
+use Rattle.aip_core.specs.Machine.{passed_on, hands_down, frame_over, taken_over, router_over, port_reached, host_reached, reached, kept_delivered, kept_sent, kept_outcome, kept_reaction, kept_events, kept_next, IsKeptStep}
 
 frame_modest : (topo : Topology) (links : List Edge) (at : Arrival) (bytes : List ℕ) (frame : Frame) → IsFrame bytes frame → IsModest (frame_over topo links at frame)
 frame_modest topo links at bytes frame is =
-    let on = passed topo at frame (port_over topo links at.place at.self frame.to) in
+    let on = passed_on topo at frame (port_over topo links at.place at.self frame.to) in
     let hops = cond (nat_le frame.hop 1) (dropped at.self.name reason.Hops) on in
     either (is_same_address at.self.address frame.to) (dropped at.self.name reason.Mine) hops
     (λ e. dropped_modest at.self.name reason.Mine)
     (λ e. either (nat_le frame.hop 1) (dropped at.self.name reason.Hops) on (λ e. dropped_modest at.self.name reason.Hops)
-    (λ e. passed_modest topo at bytes frame (port_over topo links at.place at.self frame.to) is))
+    (λ e. passed_modest topo [] at bytes frame (port_over topo links at.place at.self frame.to) is))
 
 taken_modest : (topo : Topology) (links : List Edge) (at : Arrival) (bytes : List ℕ) (frame : Option Frame) → IfSome frame (IsFrame bytes) → IsModest (taken_over topo links at frame)
 taken_modest topo links at bytes None is = dropped_modest at.self.name reason.Bad
@@ -54,13 +54,13 @@ port_modest : (topo : Topology) (links : List Edge) (place : Option ℕ) (port :
 port_modest topo links None port bytes = nothing_modest
 port_modest topo links (Some place) port bytes = router_modest topo links place (slice_get topo.routers place) port bytes
 
-seat_modest : (seat : Option Seat) (bytes : List ℕ) → IsModest (host_reached seat bytes)
-seat_modest None bytes = nothing_modest
-seat_modest (Some seat) bytes = host_modest seat (frame_of bytes)
+seat_modest : (topo : Topology) (seat : Option Seat) (bytes : List ℕ) → IsModest (host_reached seat bytes)
+seat_modest topo None bytes = nothing_modest
+seat_modest topo (Some seat) bytes = host_modest topo [] seat (frame_of bytes)
 
 reached_modest : (topo : Topology) (links : List Edge) (to : Target) (bytes : List ℕ) → IsModest (reached topo links to bytes)
 reached_modest topo links (target.Port name port) bytes = port_modest topo links (router_named topo.routers name) port bytes
-reached_modest topo links (target.Host name) bytes = seat_modest (seat_named (seats_of topo) name) bytes
+reached_modest topo links (target.Host name) bytes = seat_modest topo (seat_named (seats_of topo) name) bytes
 
 delivered_modest : (kept : Kept) (flight : Option Flight) → IsModestOutcome (kept_delivered kept flight)
 delivered_modest kept None = tt
@@ -71,8 +71,8 @@ sent_modest : (topo : Topology) (seat : Option Seat) (to : Option Address) (pack
 sent_modest topo None to packet body s t = tt
 sent_modest topo (Some seat) None packet body s t = tt
 sent_modest topo (Some seat) (Some to) packet body s t =
-    unless (nat_le (2 ^ 32) packet || nat_lt most_body (length body)) fault.Range (Ok (handed_down topo seat (frame_bytes (sent_frame to seat.address packet body))))
-    (λ e. handed_modest topo seat (frame_bytes (sent_frame to seat.address packet body)) (sent_short to seat.address packet body t s e))
+    unless (nat_le (2 ^ 32) packet || nat_lt most_body (length body)) fault.Range (Ok (hands_down topo seat (frame_bytes (sent_frame to seat.address packet body))))
+    (λ e. handed_modest topo [] seat (frame_bytes (sent_frame to seat.address packet body)) (sent_short to seat.address packet body t s e))
 
 outcome_modest : (kept : Kept) (input : Input) → IsSound kept.topo → IsModestOutcome (kept_outcome kept input)
 outcome_modest kept (Tick ticks) sound = unless ((ticks == 0) || nat_le (2 ^ 48) (kept.ticks + ticks)) fault.Range (Ok nothing) (λ e. nothing_modest)

@@ -2,11 +2,15 @@
 use Rattle.std.specs.Prelude.{◌≡◌, ℕ, ◌+◌, ◌^◌, ◌<◌, ◌||◌, ⊤, Bool, true, false, if◌then◌else◌, nat_lt, nat_le, zero, suc, List, [], ◌∷◌, ◌++◌, length, slice_get, Option, Some, None, Result, Ok, Err}
 use Rattle.aip_addr.specs.declared.ids.Address.{Address}
 use Rattle.aip_frame.specs.declared.frame.Frame.{Frame}
+use Rattle.aip_frame.specs.declared.frame.Kind.{Kind}
+use Rattle.aip_frame.specs.declared.frame.Kind.TheVariants.{Data, Challenge, Response, ShutOff}
 use Rattle.aip_frame.specs.Frame.{frame_bytes, frame_of, most_body}
 use Rattle.aip_event.specs.declared.event.Event.{Event}
+use Rattle.aip_event.specs.declared.event.Event.TheVariants.{Got}
+use Rattle.aip_event.specs.declared.event.Cause.TheVariants.{Open}
 use Rattle.aip_event.specs.declared.event.Reason.TheVariants as reason
 use Rattle.aip_event.specs.declared.input.Input.{Input}
-use Rattle.aip_event.specs.declared.input.Input.TheVariants.{Tick, Send, Deliver, Cut, Mend}
+use Rattle.aip_event.specs.declared.input.Input.TheVariants.{Tick, Send, Raw, Deliver, Inject, Cut, Mend, Shutoff, Restart, Stop, Halt, Publish}
 use Rattle.aip_event.specs.declared.input.Target.{Target}
 use Rattle.aip_event.specs.declared.input.Target.TheVariants as target
 use Rattle.aip_topo.specs.declared.topology.Router.{Router}
@@ -18,20 +22,25 @@ use Rattle.aip_rules.specs.declared.Seat.{Seat}
 use Rattle.aip_rules.specs.declared.StepFault.{StepFault}
 use Rattle.aip_rules.specs.declared.StepFault.TheVariants as fault
 use Rattle.aip_rules.specs.State.{ticks_of}
-use Rattle.aip_rules.specs.Nodes.{seats_of, seat_named, router_named, address_named, links_of, is_same_address}
+use Rattle.aip_rules.specs.Nodes.{seats_of, seat_named, router_named, address_named, links_of, is_same_address, name_at}
 use Rattle.aip_rules.specs.Routes.{port_over}
-use Rattle.aip_rules.specs.Reaction.{nothing, dropped, numbered, in_put}
-use Rattle.aip_rules.specs.Router.{Arrival, passed}
-use Rattle.aip_rules.specs.Host.{sent_frame, handed_down, taken_at_host}
+use Rattle.aip_rules.specs.Reaction.{nothing, dropped, happens, puts, numbered, in_put}
+use Rattle.aip_rules.specs.Router.{Arrival, forwarded}
+use Rattle.aip_rules.specs.Host.{sent_frame}
 use Rattle.aip_rules.specs.Step.{most_inputs, refused_if, ticked}
 use Rattle.aip_core.specs.Kept.{Kept}
+
+-- a frame that a router passes on, towards a port or none
+abbrev pub passed_on : Topology → Arrival → Frame → Option ℕ → Reaction
+passed_on topo at frame None = dropped at.self.name reason.NoRoute
+passed_on topo at frame (Some out) = forwarded topo at out Open frame
 
 -- a frame at a router, over these links
 abbrev pub frame_over : Topology → List Edge → Arrival → Frame → Reaction
 frame_over topo links at frame =
     if is_same_address at.self.address frame.to then dropped at.self.name reason.Mine else
     if nat_le frame.hop 1 then dropped at.self.name reason.Hops else
-    passed topo at frame (port_over topo links at.place at.self frame.to)
+    passed_on topo at frame (port_over topo links at.place at.self frame.to)
 
 -- a frame, or bytes that are none, at a router
 abbrev pub taken_over : Topology → List Edge → Arrival → Option Frame → Reaction
@@ -49,10 +58,23 @@ abbrev pub port_reached : Topology → List Edge → Option ℕ → ℕ → List
 port_reached topo links None port bytes = nothing
 port_reached topo links (Some place) port bytes = router_over topo links place (slice_get topo.routers place) port bytes
 
+-- a frame of this kind at the host that it is for
+abbrev pub kind_reached : Seat → Frame → Kind → Reaction
+kind_reached seat frame Data = happens (Got seat.name frame.packet)
+kind_reached seat frame Challenge = dropped seat.name reason.Mute
+kind_reached seat frame Response = dropped seat.name reason.Kind
+kind_reached seat frame ShutOff = dropped seat.name reason.Unguarded
+
+-- a frame, or bytes that are none, at a host
+abbrev pub seat_reached : Seat → Option Frame → Reaction
+seat_reached seat None = dropped seat.name reason.Bad
+seat_reached seat (Some frame) =
+    if is_same_address seat.address frame.to then kind_reached seat frame frame.kind else dropped seat.name reason.Stray
+
 -- bytes at a host, if there is one of this name
 abbrev pub host_reached : Option Seat → List ℕ → Reaction
 host_reached None bytes = nothing
-host_reached (Some seat) bytes = taken_at_host seat (frame_of bytes)
+host_reached (Some seat) bytes = seat_reached seat (frame_of bytes)
 
 -- bytes at a target
 abbrev pub reached : Topology → List Edge → Target → List ℕ → Reaction
@@ -64,13 +86,17 @@ abbrev pub kept_delivered : Kept → Option Flight → Result Reaction StepFault
 kept_delivered kept None = Err fault.NoFlight
 kept_delivered kept (Some flight) = Ok (reached kept.topo kept.links flight.target flight.bytes)
 
+-- what a host hands down, towards its port of its router
+abbrev pub hands_down : Topology → Seat → List ℕ → Reaction
+hands_down topo seat bytes = puts (target.Port (name_at topo.routers seat.router) seat.port) bytes
+
 -- a data frame that a host sends
 abbrev pub kept_sent : Topology → Option Seat → Option Address → ℕ → List ℕ → Result Reaction StepFault
 kept_sent topo None to packet body = Err fault.Unknown
 kept_sent topo (Some seat) None packet body = Err fault.Unknown
 kept_sent topo (Some seat) (Some to) packet body =
     refused_if (nat_le (2 ^ 32) packet || nat_lt most_body (length body)) fault.Range
-    (Ok (handed_down topo seat (frame_bytes (sent_frame to seat.address packet body))))
+    (Ok (hands_down topo seat (frame_bytes (sent_frame to seat.address packet body))))
 
 -- a link that is cut or mended
 abbrev pub kept_relinked : List Edge → ℕ → Result Reaction StepFault
@@ -84,7 +110,13 @@ kept_outcome kept (Send host node packet body) =
 kept_outcome kept (Deliver flight) = kept_delivered kept (slice_get kept.flights flight)
 kept_outcome kept (Cut link) = kept_relinked kept.links link
 kept_outcome kept (Mend link) = kept_relinked kept.links link
-kept_outcome kept _ = Ok nothing
+kept_outcome kept (Raw host bytes) = Ok nothing
+kept_outcome kept (Inject to bytes) = Ok nothing
+kept_outcome kept (Shutoff host flight ttl) = Ok nothing
+kept_outcome kept (Restart node) = Ok nothing
+kept_outcome kept (Stop host call byte) = Ok nothing
+kept_outcome kept (Halt host call byte) = Ok nothing
+kept_outcome kept (Publish bytes) = Ok nothing
 
 -- what comes of an input
 abbrev pub kept_reaction : Kept → Input → Result Reaction StepFault

@@ -2,8 +2,7 @@
 
 ghost use Rattle.std.specs.Prelude.{◌≡◌, ◌<◌, length, Some, IsSome, IfSome, IfOk};
 ghost use Rattle.aip_frame.specs.Frame.{frame_of};
-ghost use Rattle.aip_rules.specs.Host.{taken_at_host, kind_at_host};
-ghost use Rattle.aip_core.specs.Machine.{kept_sent};
+ghost use Rattle.aip_core.specs.Machine.{kept_sent, kind_reached, seat_reached};
 
 use crate::directory::Directory;
 use crate::reactions::{dropped, happens, puts};
@@ -16,7 +15,7 @@ use std::alloc::{AllocError, Global};
 // A frame that is for the host.
 fn take_in(alloc: Global, seat: &Seat, bytes: &[u8]) -> Result<Reaction, AllocError>
     requires { IsSome (frame_of bytes.now) }
-    ensures { IfOk result (λ reaction. IfSome (frame_of bytes.now) (λ frame. reaction ≡ kind_at_host seat.now frame frame.kind)) }
+    ensures { IfOk result (λ reaction. IfSome (frame_of bytes.now) (λ frame. reaction ≡ kind_reached seat.now frame frame.kind)) }
 {
     match kind_of(bytes) {
         Kind::Data => happens(
@@ -34,7 +33,7 @@ fn take_in(alloc: Global, seat: &Seat, bytes: &[u8]) -> Result<Reaction, AllocEr
 
 /// What happens where bytes arrive at a host. The only error is want of memory.
 pub fn arrive(alloc: Global, seat: &Seat, bytes: &[u8]) -> Result<Reaction, AllocError>
-    ensures { IfOk result (λ reaction. reaction ≡ taken_at_host seat.now (frame_of bytes.now)) }
+    ensures { IfOk result (λ reaction. reaction ≡ seat_reached seat.now (frame_of bytes.now)) }
 {
     if !is_frame(bytes) {
         return dropped(alloc, seat.name, Reason::Bad);

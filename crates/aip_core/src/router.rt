@@ -5,10 +5,10 @@ ghost use Rattle.aip_frame.specs.Frame.{frame_bytes, frame_of};
 ghost use Rattle.aip_rules.specs.Nodes.{target_at, target_towards};
 ghost use Rattle.aip_rules.specs.Routes.{goal_of, port_of_seat, port_to_goal, port_over};
 ghost use Rattle.aip_rules.specs.Reaction.{happens_and_puts};
-ghost use Rattle.aip_rules.specs.Router.{one_hop_less, passed};
+ghost use Rattle.aip_rules.specs.Router.{one_hop_less};
 ghost use Rattle.aip_event.specs.declared.event.Event.TheVariants.{Forward};
 ghost use Rattle.aip_event.specs.declared.event.Cause.TheVariants.{Open};
-ghost use Rattle.aip_core.specs.Machine.{frame_over, taken_over, router_over};
+ghost use Rattle.aip_core.specs.Machine.{frame_over, passed_on, taken_over, router_over};
 ghost use Rattle.aip_core.specs.Wiring.{IsWiringOf, LeadsBelow};
 
 use crate::directory::Directory;
@@ -168,7 +168,7 @@ fn pass(
     requires frame { IsSome (frame_of bytes.now) }
     ensures same { wiring.new ≡ wiring.old }
     ensures reaction { IfOk result (λ reaction. IfSome (frame_of bytes.now) (λ frame.
-        reaction ≡ passed directory.now (record { place = at.now.place; self = at.now.own; port = at.now.port }) frame
+        reaction ≡ passed_on directory.now (record { place = at.now.place; self = at.now.own; port = at.now.port }) frame
         (port_over directory.now wiring.old.links at.now.place at.now.own frame.to))) }
 {
     match port_over(alloc, directory, wiring, at.place, &at.own, &to_of(bytes))? {

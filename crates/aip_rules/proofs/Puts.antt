@@ -30,7 +30,7 @@ use Rattle.aip_rules.specs.Routes.{port_to}
 use Rattle.aip_rules.specs.Reaction.{nothing, dropped, puts, happens, put_event, numbered, in_put}
 use Rattle.aip_rules.specs.Router.{Arrival, one_hop_less, passed, frame_at_router, taken_at_router}
 use Rattle.aip_rules.specs.Host.{sent_frame, handed_down, put_by, kind_at_host, taken_at_host, at_host}
-use Rattle.aip_rules.specs.Step.{most_bytes, most_inputs, can_be_put, refused_if, sent, put_raw, arrives_at_router, arrives_at_port, arrives_at_seat, arrives, delivered, injected_at_port, injected_at_host, injected, relinked, is_named_frame, shut_off, restarted, stop_armed, halt_armed, published, outcome_of, reaction_of, events_of}
+use Rattle.aip_rules.specs.Step.{most_bytes, most_inputs, can_be_put, refused_if, sent, put_raw, arrives_at_router, arrives_at_port, arrives_at_seat, arrives, delivered, injected_at_port, injected_at_host, injected, relinked, is_named_frame, shut_off_by, shut_off, restarted, stop_armed, halt_armed, published, outcome_of, reaction_of, events_of}
 use Rattle.aip_rules.specs.Laws.{flights_put, IsShort, PutAtMostOne, InputsPutAtMostOne}
 use Rattle.aip_rules.proofs.Sizes.{IsSizedAddress, HasSizedAddress, seat_sized, address_sized, fitting_short}
 
@@ -88,45 +88,45 @@ one_less_short bytes frame is =
     })
 
 -- a frame that passes, towards a port or none
-pub passed_modest : (topo : Topology) (at : Arrival) (bytes : List ℕ) (frame : Frame) (out : Option ℕ) → IsFrame bytes frame → IsModest (passed topo at frame out)
-passed_modest topo at bytes frame None is = dropped_modest at.self.name reason.NoRoute
-passed_modest topo at bytes frame (Some out) is = record { calm = ((refl, λ n. refl), tt); short = one_less_short bytes frame is }
+pub passed_modest : (topo : Topology) (tr : List Entry) (at : Arrival) (bytes : List ℕ) (frame : Frame) (out : Option ℕ) → IsFrame bytes frame → IsModest (passed topo tr at frame out)
+passed_modest topo tr at bytes frame None is = dropped_modest at.self.name reason.NoRoute
+passed_modest topo tr at bytes frame (Some out) is = record { calm = ((refl, λ n. refl), tt); short = one_less_short bytes frame is }
 
-kind_modest : (seat : Seat) (frame : Frame) (kind : Kind) → IsModest (kind_at_host seat frame kind)
-kind_modest seat frame Data = record { calm = ((refl, λ n. refl), tt); short = tt }
-kind_modest seat frame Challenge = dropped_modest seat.name reason.Mute
-kind_modest seat frame Response = dropped_modest seat.name reason.Kind
-kind_modest seat frame ShutOff = dropped_modest seat.name reason.Unguarded
+kind_modest : (topo : Topology) (tr : List Entry) (seat : Seat) (frame : Frame) (kind : Kind) → IsModest (kind_at_host topo tr seat frame kind)
+kind_modest topo tr seat frame Data = record { calm = ((refl, λ n. refl), tt); short = tt }
+kind_modest topo tr seat frame Challenge = dropped_modest seat.name reason.Mute
+kind_modest topo tr seat frame Response = dropped_modest seat.name reason.Kind
+kind_modest topo tr seat frame ShutOff = dropped_modest seat.name reason.Unguarded
 
 -- what is taken at a host
-pub host_modest : (seat : Seat) (frame : Option Frame) → IsModest (taken_at_host seat frame)
-host_modest seat None = dropped_modest seat.name reason.Bad
-host_modest seat (Some frame) =
-    either (is_same_address seat.address frame.to) (kind_at_host seat frame frame.kind) (dropped seat.name reason.Stray)
-    (λ e. kind_modest seat frame frame.kind) (λ e. dropped_modest seat.name reason.Stray)
+pub host_modest : (topo : Topology) (tr : List Entry) (seat : Seat) (frame : Option Frame) → IsModest (taken_at_host topo tr seat frame)
+host_modest topo tr seat None = dropped_modest seat.name reason.Bad
+host_modest topo tr seat (Some frame) =
+    either (is_same_address seat.address frame.to) (kind_at_host topo tr seat frame frame.kind) (dropped seat.name reason.Stray)
+    (λ e. kind_modest topo tr seat frame frame.kind) (λ e. dropped_modest seat.name reason.Stray)
 
 -- what a host hands down
-pub handed_modest : (topo : Topology) (seat : Seat) (bytes : List ℕ) → length bytes ≤ 9216 → IsModest (handed_down topo seat bytes)
-handed_modest topo seat bytes short = puts_modest _ bytes short
+pub handed_modest : (topo : Topology) (tr : List Entry) (seat : Seat) (bytes : List ℕ) → length bytes ≤ 9216 → IsModest (handed_down topo tr seat bytes)
+handed_modest topo tr seat bytes short = puts_modest _ bytes short
 
 put_by_modest : (topo : Topology) (tr : List Entry) (seat : Seat) (bytes : List ℕ) → length bytes ≤ 9216 → IsModest (put_by topo tr seat bytes)
 put_by_modest topo tr seat bytes short =
-    either (is_down tr seat.name) (dropped seat.name reason.Down) (handed_down topo seat bytes)
-    (λ e. dropped_modest seat.name reason.Down) (λ e. handed_modest topo seat bytes short)
+    either (is_down tr seat.name) (dropped seat.name reason.Down) (handed_down topo tr seat bytes)
+    (λ e. dropped_modest seat.name reason.Down) (λ e. handed_modest topo tr seat bytes short)
 
-at_host_modest : (tr : List Entry) (seat : Seat) (bytes : List ℕ) → IsModest (at_host tr seat bytes)
-at_host_modest tr seat bytes =
-    either (is_down tr seat.name) (dropped seat.name reason.Down) (taken_at_host seat (frame_of bytes))
-    (λ e. dropped_modest seat.name reason.Down) (λ e. host_modest seat (frame_of bytes))
+at_host_modest : (topo : Topology) (tr : List Entry) (seat : Seat) (bytes : List ℕ) → IsModest (at_host topo tr seat bytes)
+at_host_modest topo tr seat bytes =
+    either (is_down tr seat.name) (dropped seat.name reason.Down) (taken_at_host topo tr seat (frame_of bytes))
+    (λ e. dropped_modest seat.name reason.Down) (λ e. host_modest topo tr seat (frame_of bytes))
 
 frame_modest : (topo : Topology) (tr : List Entry) (at : Arrival) (bytes : List ℕ) (frame : Frame) → IsFrame bytes frame → IsModest (frame_at_router topo tr at frame)
 frame_modest topo tr at bytes frame is =
-    let on = passed topo at frame (port_to topo tr at.place at.self frame.to) in
+    let on = passed topo tr at frame (port_to topo tr at.place at.self frame.to) in
     let hops = cond (nat_le frame.hop 1) (dropped at.self.name reason.Hops) on in
     either (is_same_address at.self.address frame.to) (dropped at.self.name reason.Mine) hops
     (λ e. dropped_modest at.self.name reason.Mine)
     (λ e. either (nat_le frame.hop 1) (dropped at.self.name reason.Hops) on (λ e. dropped_modest at.self.name reason.Hops)
-    (λ e. passed_modest topo at bytes frame _ is))
+    (λ e. passed_modest topo tr at bytes frame _ is))
 
 at_router_modest : (topo : Topology) (tr : List Entry) (at : Arrival) (bytes : List ℕ) (frame : Option Frame) → IfSome frame (IsFrame bytes) → IsModest (taken_at_router topo tr at frame)
 at_router_modest topo tr at bytes None is = dropped_modest at.self.name reason.Bad
@@ -140,13 +140,13 @@ port_modest : (topo : Topology) (tr : List Entry) (place : Option ℕ) (port : �
 port_modest topo tr None port bytes = nothing_modest
 port_modest topo tr (Some place) port bytes = place_modest topo tr place _ port bytes
 
-seat_modest : (tr : List Entry) (seat : Option Seat) (bytes : List ℕ) → IsModest (arrives_at_seat tr seat bytes)
-seat_modest tr None bytes = nothing_modest
-seat_modest tr (Some seat) bytes = at_host_modest tr seat bytes
+seat_modest : (topo : Topology) (tr : List Entry) (seat : Option Seat) (bytes : List ℕ) → IsModest (arrives_at_seat topo tr seat bytes)
+seat_modest topo tr None bytes = nothing_modest
+seat_modest topo tr (Some seat) bytes = at_host_modest topo tr seat bytes
 
 arrives_modest : (topo : Topology) (tr : List Entry) (to : Target) (bytes : List ℕ) → IsModest (arrives topo tr to bytes)
 arrives_modest topo tr (target.Port name port) bytes = port_modest topo tr (router_named topo.routers name) port bytes
-arrives_modest topo tr (target.Host name) bytes = seat_modest tr (seat_named (seats_of topo) name) bytes
+arrives_modest topo tr (target.Host name) bytes = seat_modest topo tr (seat_named (seats_of topo) name) bytes
 
 -- an outcome that isn't a fault is modest
 abbrev pub IsModestOutcome : Result Reaction StepFault → Type 0
@@ -221,12 +221,13 @@ injected_modest topo (target.Host name) bytes = injected_host_modest (seat_named
 relinked_modest : (topo : Topology) (link : ℕ) → IsModestOutcome (relinked topo link)
 relinked_modest topo link = where_allowed (nat_lt link (length (links_of topo))) fault.Range (Ok nothing) (λ e. nothing_modest)
 
-shut_modest : (topo : Topology) (seat : Option Seat) (flight : Option Flight) (ttl : ℕ) → IsModestOutcome (shut_off topo seat flight ttl)
-shut_modest topo None flight ttl = tt
-shut_modest topo (Some seat) flight ttl =
+shut_modest : (topo : Topology) (tr : List Entry) (seat : Option Seat) (flight : Option Flight) (ttl : ℕ) → IsModestOutcome (shut_off topo tr seat flight ttl)
+shut_modest topo tr None flight ttl = tt
+shut_modest topo tr (Some seat) flight ttl =
     where_allowed (is_named_frame flight) fault.NoFlight _
     (λ e. unless (nat_le (2 ^ 32) ttl) fault.Range _
-    (λ e. where_allowed (has_key topo.parts seat.name) fault.Keyless (Ok nothing) (λ e. nothing_modest)))
+    (λ e. where_allowed (has_key topo.parts seat.name) fault.Keyless (Ok (shut_off_by tr seat)) (λ e.
+    either (is_down tr seat.name) (dropped seat.name reason.Down) nothing (λ e. dropped_modest seat.name reason.Down) (λ e. nothing_modest))))
 
 restarted_modest : (address : Option Address) → IsModestOutcome (restarted address)
 restarted_modest None = tt
@@ -256,7 +257,7 @@ outcome_modest topo tr (Deliver flight) sound = delivered_modest topo tr (flight
 outcome_modest topo tr (Inject to bytes) sound = injected_modest topo to bytes
 outcome_modest topo tr (Cut link) sound = relinked_modest topo link
 outcome_modest topo tr (Mend link) sound = relinked_modest topo link
-outcome_modest topo tr (Shutoff host flight ttl) sound = shut_modest topo (seat_named (seats_of topo) host) (flight_at tr flight) ttl
+outcome_modest topo tr (Shutoff host flight ttl) sound = shut_modest topo tr (seat_named (seats_of topo) host) (flight_at tr flight) ttl
 outcome_modest topo tr (Restart node) sound = restarted_modest (address_named topo node)
 outcome_modest topo tr (Stop host call byte) sound = armed_modest topo (seat_named (seats_of topo) host) call byte
 outcome_modest topo tr (Halt host call byte) sound = halt_modest (seat_named (seats_of topo) host) call byte

@@ -23,29 +23,31 @@ sent_frame to from packet body =
 
 -- what a host hands down goes towards its port of its router. Every host is plain: what a guard withholds is still to
 -- come, and no topology that is run has one.
-abbrev pub handed_down : Topology → Seat → List ℕ → Reaction
-handed_down topo seat bytes = puts (target.Port (name_at topo.routers seat.router) seat.port) bytes
+abbrev pub handed_down : Topology → List Entry → Seat → List ℕ → Reaction
+handed_down topo tr seat bytes = puts (target.Port (name_at topo.routers seat.router) seat.port) bytes
 
 -- a host that is asked to put bytes hands them down, and drops them while it is down
 abbrev pub put_by : Topology → List Entry → Seat → List ℕ → Reaction
 put_by topo tr seat bytes =
-    if is_down tr seat.name then dropped seat.name reason.Down else handed_down topo seat bytes
+    if is_down tr seat.name then dropped seat.name reason.Down else handed_down topo tr seat bytes
 
 -- a frame of this kind, to the host: data is received. What a challenge names, and what a host with a key answers, are
 -- still to come: no input that is built makes a frame of another kind than data.
-abbrev pub kind_at_host : Seat → Frame → Kind → Reaction
-kind_at_host seat frame Data = happens (Got seat.name frame.packet)
-kind_at_host seat frame Challenge = dropped seat.name reason.Mute
-kind_at_host seat frame Response = dropped seat.name reason.Kind
-kind_at_host seat frame ShutOff = dropped seat.name reason.Unguarded
+abbrev pub kind_at_host : Topology → List Entry → Seat → Frame → Kind → Reaction
+kind_at_host topo tr seat frame Data = happens (Got seat.name frame.packet)
+kind_at_host topo tr seat frame Challenge = dropped seat.name reason.Mute
+kind_at_host topo tr seat frame Response = dropped seat.name reason.Kind
+kind_at_host topo tr seat frame ShutOff = dropped seat.name reason.Unguarded
 
 -- a frame, or bytes that are none, at a host that is up
-abbrev pub taken_at_host : Seat → Option Frame → Reaction
-taken_at_host seat None = dropped seat.name reason.Bad
-taken_at_host seat (Some frame) =
-    if is_same_address seat.address frame.to then kind_at_host seat frame frame.kind else dropped seat.name reason.Stray
+abbrev pub taken_at_host : Topology → List Entry → Seat → Option Frame → Reaction
+taken_at_host topo tr seat None = dropped seat.name reason.Bad
+taken_at_host topo tr seat (Some frame) =
+    if is_same_address seat.address frame.to
+    then kind_at_host topo tr seat frame frame.kind
+    else dropped seat.name reason.Stray
 
 -- what happens where these bytes arrive at a host, by the first line that applies
-abbrev pub at_host : List Entry → Seat → List ℕ → Reaction
-at_host tr seat bytes =
-    if is_down tr seat.name then dropped seat.name reason.Down else taken_at_host seat (frame_of bytes)
+abbrev pub at_host : Topology → List Entry → Seat → List ℕ → Reaction
+at_host topo tr seat bytes =
+    if is_down tr seat.name then dropped seat.name reason.Down else taken_at_host topo tr seat (frame_of bytes)

@@ -31,16 +31,16 @@ forwarded topo at out cause frame =
 
 -- a frame that has a hop left and isn't for the router: without a port towards its destination it is dropped. Every
 -- router is open: what a checking router does is still to come, and no topology that is run has one.
-abbrev pub passed : Topology → Arrival → Frame → Option ℕ → Reaction
-passed topo at frame None = dropped at.self.name reason.NoRoute
-passed topo at frame (Some out) = forwarded topo at out Open frame
+abbrev pub passed : Topology → List Entry → Arrival → Frame → Option ℕ → Reaction
+passed topo tr at frame None = dropped at.self.name reason.NoRoute
+passed topo tr at frame (Some out) = forwarded topo at out Open frame
 
 -- a frame at a router, by the first line that applies: it is for the router itself, it has no hop left, or it passes
 abbrev pub frame_at_router : Topology → List Entry → Arrival → Frame → Reaction
 frame_at_router topo tr at frame =
     if is_same_address at.self.address frame.to then dropped at.self.name reason.Mine else
     if nat_le frame.hop 1 then dropped at.self.name reason.Hops else
-    passed topo at frame (port_to topo tr at.place at.self frame.to)
+    passed topo tr at frame (port_to topo tr at.place at.self frame.to)
 
 -- a frame, or bytes that are none, at a router
 abbrev pub taken_at_router : Topology → List Entry → Arrival → Option Frame → Reaction

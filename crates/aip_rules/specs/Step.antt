@@ -6,6 +6,7 @@ use Rattle.aip_frame.specs.Frame.{frame_bytes, frame_of, most_body}
 use Rattle.aip_event.specs.declared.input.Input.{Input}
 use Rattle.aip_event.specs.declared.input.Input.TheVariants.{Tick, Send, Raw, Deliver, Inject, Cut, Mend, Shutoff, Restart, Stop, Halt, Publish}
 use Rattle.aip_event.specs.declared.event.Event.{Event}
+use Rattle.aip_event.specs.declared.event.Reason.TheVariants as reason
 use Rattle.aip_event.specs.declared.input.Target.{Target}
 use Rattle.aip_event.specs.declared.input.Target.TheVariants as target
 use Rattle.aip_topo.specs.declared.topology.Router.{Router}
@@ -17,9 +18,9 @@ use Rattle.aip_rules.specs.declared.Reaction.{Reaction}
 use Rattle.aip_rules.specs.declared.Seat.{Seat}
 use Rattle.aip_rules.specs.declared.StepFault.{StepFault}
 use Rattle.aip_rules.specs.declared.StepFault.TheVariants as fault
-use Rattle.aip_rules.specs.State.{now_of, input_count, flight_at}
+use Rattle.aip_rules.specs.State.{now_of, input_count, flight_at, is_down}
 use Rattle.aip_rules.specs.Nodes.{seats_of, seat_named, router_named, address_named, links_of, neighbours_of, has_key}
-use Rattle.aip_rules.specs.Reaction.{nothing, puts, events_on}
+use Rattle.aip_rules.specs.Reaction.{nothing, dropped, puts, events_on}
 use Rattle.aip_rules.specs.Router.{at_router}
 use Rattle.aip_rules.specs.Host.{at_host, put_by, sent_frame}
 
@@ -79,14 +80,14 @@ arrives_at_port topo tr (Some place) port bytes =
     arrives_at_router topo tr place (slice_get topo.routers place) port bytes
 
 -- what happens where bytes arrive at a host, if there is one of this name
-abbrev pub arrives_at_seat : List Entry → Option Seat → List ℕ → Reaction
-arrives_at_seat tr None bytes = nothing
-arrives_at_seat tr (Some seat) bytes = at_host tr seat bytes
+abbrev pub arrives_at_seat : Topology → List Entry → Option Seat → List ℕ → Reaction
+arrives_at_seat topo tr None bytes = nothing
+arrives_at_seat topo tr (Some seat) bytes = at_host topo tr seat bytes
 
 -- what happens where bytes arrive at a target
 abbrev pub arrives : Topology → List Entry → Target → List ℕ → Reaction
 arrives topo tr (target.Port name port) bytes = arrives_at_port topo tr (router_named topo.routers name) port bytes
-arrives topo tr (target.Host name) bytes = arrives_at_seat tr (seat_named (seats_of topo) name) bytes
+arrives topo tr (target.Host name) bytes = arrives_at_seat topo tr (seat_named (seats_of topo) name) bytes
 
 -- a flight is delivered to its target, if it was put
 abbrev pub delivered : Topology → List Entry → Option Flight → Result Reaction StepFault
@@ -125,17 +126,22 @@ abbrev pub is_named_frame : Option Flight → Bool
 is_named_frame None = false
 is_named_frame (Some flight) = is_some_frame (frame_of flight.bytes)
 
+-- a host with a key signs a shut-off, and drops it while it is down. What it signs is still to come.
+abbrev pub shut_off_by : List Entry → Seat → Reaction
+shut_off_by tr seat = if is_down tr seat.name then dropped seat.name reason.Down else still_to_come
+
 -- a host signs a shut-off of a flight: the host is known, the flight is a frame, the time is below 2^32, and the host has
 -- a key
-abbrev pub shut_off : Topology → Option Seat → Option Flight → ℕ → Result Reaction StepFault
-shut_off topo None flight ttl = Err fault.Unknown
-shut_off topo (Some seat) flight ttl =
+abbrev pub shut_off : Topology → List Entry → Option Seat → Option Flight → ℕ → Result Reaction StepFault
+shut_off topo tr None flight ttl = Err fault.Unknown
+shut_off topo tr (Some seat) flight ttl =
     if is_named_frame flight then
     refused_if (nat_le (2 ^ 32) ttl) fault.Range
-    (if has_key topo.parts seat.name then Ok still_to_come else Err fault.Keyless)
+    (if has_key topo.parts seat.name then Ok (shut_off_by tr seat) else Err fault.Keyless)
     else Err fault.NoFlight
 
--- a node starts anew: it is known
+-- a node starts anew: it is known. What a guarded host was told and then says is still to come, and no topology that is
+-- run has one; any other node says nothing.
 abbrev pub restarted : Option Address → Result Reaction StepFault
 restarted None = Err fault.Unknown
 restarted (Some address) = Ok nothing
@@ -169,7 +175,7 @@ outcome_of topo tr (Inject to bytes) = injected topo to bytes
 outcome_of topo tr (Cut link) = relinked topo link
 outcome_of topo tr (Mend link) = relinked topo link
 outcome_of topo tr (Shutoff host flight ttl) =
-    shut_off topo (seat_named (seats_of topo) host) (flight_at tr flight) ttl
+    shut_off topo tr (seat_named (seats_of topo) host) (flight_at tr flight) ttl
 outcome_of topo tr (Restart node) = restarted (address_named topo node)
 outcome_of topo tr (Stop host call byte) = stop_armed topo (seat_named (seats_of topo) host) call byte
 outcome_of topo tr (Halt host call byte) = halt_armed (seat_named (seats_of topo) host) call byte
