@@ -13,24 +13,21 @@ ghost use Rattle.aip_rules.specs.Texts.{is_built_topology};
 ghost use Rattle.aip_rules.specs.Laws.{PutAtMostOne};
 ghost use Rattle.aip_core.specs.Machine.{kept_at_start, kept_sent, kept_relinked, kept_delivered, kept_outcome, kept_after, links_with, LinkIsThere, reached, IsKeptStep};
 ghost use Rattle.aip_core.specs.StandsFor.{StandsFor, IsStep};
-ghost use Rattle.aip_core.specs.Answers.{IsRefusal, IsKeptRefusal};
+ghost use Rattle.aip_core.specs.Answers.{IsOutcome, IsRefusal, IsKeptRefusal};
 ghost use Rattle.aip_core.specs.Wiring.{IsWiringOf};
 
 use crate::directory::Directory;
 use crate::flights::Flights;
 use crate::places::{Places, places_of};
-use crate::reactions::nothing;
+use crate::reactions::{NoReaction, nothing};
 use crate::wiring::Wiring;
 use crate::{host, router};
 use aip_addr::Name;
 use aip_event::{Events, Input, Target};
-use aip_rules::{Flight, Reaction, StepFault};
+use aip_rules::{Flight, MOST_INPUTS, Reaction, StepFault};
 use aip_topo::{Router, Topology};
 use std::alloc::{AllocError, Global};
 use std::marker::Model;
-
-/// The most inputs that a core takes.
-const MOST_INPUTS: u32 = 65_536;
 
 /// The network as it runs. Contracts see its topology, its links as they are, its flights, its time and the number of
 /// inputs that it took; and these stand for a trace.
@@ -230,27 +227,23 @@ impl Core {
         node: &Name,
         packet: u64,
         body: &[u8],
-    ) -> Result<Result<Reaction, StepFault>, AllocError>
-        ensures { IfOk result (λ outcome. outcome ≡ kept_sent self.now.topo
-            (seat_named (seats_of self.now.topo) host.now) (address_named self.now.topo node.now) packet body.now) }
+    ) -> Result<Reaction, NoReaction>
+        ensures { IsOutcome (kept_sent self.now.topo (seat_named (seats_of self.now.topo) host.now)
+            (address_named self.now.topo node.now) packet body.now) result }
     {
         match self.directory.seat_named(host) {
             Some(seat) => match self.directory.address_named(node) {
                 Some(to) => host::send(alloc, &self.directory, &seat, to, packet, body),
-                None => Ok(Err(StepFault::Unknown)),
+                None => Err(NoReaction::Fault(StepFault::Unknown)),
             },
-            None => Ok(Err(StepFault::Unknown)),
+            None => Err(NoReaction::Fault(StepFault::Unknown)),
         }
     }
 
     // A flight is delivered, if it was put.
-    fn deliver(
-        &mut self,
-        alloc: Global,
-        flight: u64,
-    ) -> Result<Result<Reaction, StepFault>, AllocError>
+    fn deliver(&mut self, alloc: Global, flight: u64) -> Result<Reaction, NoReaction>
         ensures same { self.new ≡ self.old }
-        ensures outcome { IfOk result (λ outcome. outcome ≡ kept_delivered self.old (slice_get self.old.flights flight)) }
+        ensures outcome { IsOutcome (kept_delivered self.old (slice_get self.old.flights flight)) result }
     {
         match self.flights.find(flight as usize) {
             Some(found) => {
@@ -262,32 +255,28 @@ impl Core {
                     &found.target,
                     bytes,
                 )?;
-                Ok(Ok(reaction))
+                Ok(reaction)
             }
-            None => Ok(Err(StepFault::NoFlight)),
+            None => Err(NoReaction::Fault(StepFault::NoFlight)),
         }
     }
 
     // What comes of an input, where one more may be taken.
-    fn outcome(
-        &mut self,
-        alloc: Global,
-        input: &Input,
-    ) -> Result<Result<Reaction, StepFault>, AllocError>
+    fn outcome(&mut self, alloc: Global, input: &Input) -> Result<Reaction, NoReaction>
         requires { IsTrue (is_built input.now) }
         ensures same { self.new ≡ self.old }
-        ensures outcome { IfOk result (λ outcome. outcome ≡ kept_outcome self.old input.now) }
+        ensures outcome { IsOutcome (kept_outcome self.old input.now) result }
     {
         match input {
             Input::Deliver { flight } => self.deliver(alloc, *flight),
-            Input::Tick { ticks } => Ok(self.tick(alloc, *ticks)),
+            Input::Tick { ticks } => Ok(self.tick(alloc, *ticks)?),
             Input::Send {
                 host,
                 node,
                 packet,
                 body,
             } => self.send(alloc, host, node, *packet, body.as_slice()),
-            Input::Cut { link } | Input::Mend { link } => Ok(self.relink(alloc, *link)),
+            Input::Cut { link } | Input::Mend { link } => Ok(self.relink(alloc, *link)?),
             _ => unreachable!(),
         }
     }
@@ -337,9 +326,10 @@ impl Core {
             return Err(StepEnd::Refused { core: self, fault });
         }
         let mut core = self;
-        match core.outcome(alloc, &input)? {
+        match core.outcome(alloc, &input) {
             Ok(reaction) => Ok(core.with(alloc, &input, reaction)?),
-            Err(fault) => Err(StepEnd::Refused { core, fault }),
+            Err(NoReaction::Fault(fault)) => Err(StepEnd::Refused { core, fault }),
+            Err(NoReaction::Memory) => Err(StepEnd::Memory),
         }
     }
 

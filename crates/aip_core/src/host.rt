@@ -2,13 +2,14 @@
 
 ghost use Rattle.std.specs.Prelude.{◌≡◌, ◌<◌, length, Some, IsSome, IfSome, IfOk};
 ghost use Rattle.aip_frame.specs.Frame.{frame_of};
+ghost use Rattle.aip_core.specs.Answers.{IsOutcome};
 ghost use Rattle.aip_core.specs.Machine.{kept_sent, kind_reached, seat_reached};
 
 use crate::directory::Directory;
-use crate::reactions::{dropped, happens, puts};
+use crate::reactions::{NoReaction, dropped, happens, puts};
 use aip_addr::{Address, Bytes};
 use aip_event::{Event, Reason, Target};
-use aip_frame::{Frame, Kind, encode, is_frame, kind_of, packet_of, to_of};
+use aip_frame::{Frame, Kind, MOST_BODY, encode, is_frame, kind_of, packet_of, to_of};
 use aip_rules::{Reaction, Seat, StepFault};
 use std::alloc::{AllocError, Global};
 
@@ -53,12 +54,12 @@ pub fn send(
     to: Address,
     packet: u64,
     body: &[u8],
-) -> Result<Result<Reaction, StepFault>, AllocError>
+) -> Result<Reaction, NoReaction>
     requires { seat.now.router < length directory.now.routers }
-    ensures { IfOk result (λ outcome. outcome ≡ kept_sent directory.now (Some seat.now) (Some to) packet body.now) }
+    ensures { IsOutcome (kept_sent directory.now (Some seat.now) (Some to) packet body.now) result }
 {
-    if packet >= 1 << 32 || body.len() > 9126 {
-        return Ok(Err(StepFault::Range));
+    if packet >= 1 << 32 || body.len() > MOST_BODY {
+        return Err(NoReaction::Fault(StepFault::Range));
     }
     let frame = Frame {
         kind: Kind::Data,
@@ -73,5 +74,5 @@ pub fn send(
         router: directory.name_at(seat.router),
         port: seat.port.into(),
     };
-    Ok(Ok(puts(alloc, target, bytes)))
+    Ok(puts(alloc, target, bytes))
 }

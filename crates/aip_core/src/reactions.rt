@@ -5,8 +5,39 @@ ghost use Rattle.aip_rules.specs.Reaction.{nothing, happens, dropped, puts, happ
 
 use aip_addr::{Bytes, Name};
 use aip_event::{Event, Events, Reason, Target};
-use aip_rules::{Flight, Reaction};
+use aip_rules::{Flight, Reaction, StepFault};
 use std::alloc::{AllocError, Global};
+
+/// Why an input has no reaction.
+#[derive(Clone, Copy, Debug, PartialEq, Eq)]
+pub enum NoReaction {
+    /// The rules refuse it, with the first fault that applies.
+    Fault(StepFault),
+    /// There was no memory for it.
+    Memory,
+}
+
+impl From<StepFault> for NoReaction {
+    ghost use Rattle.std.specs.Prelude.{◌≡◌};
+    ghost use Rattle.aip_core.specs.declared.reactions.NoReaction.TheVariants as no;
+
+    ghost from_gives = { λ fault e. e ≡ no.Fault fault };
+
+    fn from(fault: StepFault) -> Self {
+        NoReaction::Fault(fault)
+    }
+}
+
+impl From<AllocError> for NoReaction {
+    ghost use Rattle.std.specs.Prelude.{◌≡◌};
+    ghost use Rattle.aip_core.specs.declared.reactions.NoReaction.TheVariants as no;
+
+    ghost from_gives = { λ _ e. e ≡ no.Memory };
+
+    fn from(_: AllocError) -> Self {
+        NoReaction::Memory
+    }
+}
 
 /// Nothing happens.
 pub fn nothing(alloc: Global) -> Reaction

@@ -4,7 +4,7 @@ ghost use Rattle.aip_frame.specs.declared.frame.Frame.{Frame};
 ghost use Rattle.aip_frame.specs.Frame.{IsFrame, frame_bytes, frame_of, body_fits, kind_at};
 ghost use Rattle.aip_frame.specs.Form.{has_form};
 
-use crate::frame::Kind;
+use crate::frame::{Kind, MOST_BODY};
 use aip_addr::Address;
 use byteorder::{BigEndian, ByteOrder};
 
@@ -38,7 +38,7 @@ fn body_fits(kind: Kind, len: usize) -> bool
 {
     match kind {
         Kind::Challenge => len == 154,
-        Kind::Data | Kind::Response | Kind::ShutOff => len <= 9126,
+        Kind::Data | Kind::Response | Kind::ShutOff => len <= MOST_BODY,
     }
 }
 

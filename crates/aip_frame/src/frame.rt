@@ -1,5 +1,8 @@
 use aip_addr::{Address, Bytes};
 
+/// The most bytes of a frame's body.
+pub const MOST_BODY: usize = 9126;
+
 /// What a frame carries.
 #[derive(Clone, Copy, Debug, PartialEq, Eq)]
 pub enum Kind {

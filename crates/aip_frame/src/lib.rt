@@ -37,7 +37,7 @@ mod spelling;
 mod whole;
 
 pub use fields::{body_of, from_of, hop_of, is_frame, kind_of, packet_of, set_hop, to_of};
-pub use frame::{Frame, Kind};
+pub use frame::{Frame, Kind, MOST_BODY};
 pub use spelling::encode;
 pub use whole::{no_longer_is_a_frame, no_prefix_is_a_frame, packet_hash, parse};
 

@@ -13,6 +13,12 @@ use aip_event::{Event, Events, Input, Target};
 pub use laws::{a_run_has_the_trace_of_its_lines, an_input_puts_at_most_one_flight};
 use thiserror::Error;
 
+/// The most inputs of a trace.
+pub const MOST_INPUTS: u32 = 65_536;
+
+/// The most lines of a schedule.
+pub const MOST_LINES: u32 = 65_536;
+
 /// An entry of a trace: an input that was taken, or an event that came of the input below it.
 #[derive(Debug, Drop)]
 pub enum Entry {

@@ -1,7 +1,7 @@
+use crate::topologies::TopologyEnd;
 use aip_addr::Memory;
 use aip_rules::StepFault;
 use aip_topo::TopoFault;
-use crate::topologies::TopologyEnd;
 
 /// How a run ends.
 #[derive(Clone, Copy, Debug, PartialEq, Eq)]

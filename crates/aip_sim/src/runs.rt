@@ -12,11 +12,11 @@ ghost use Rattle.aip_sim.specs.Judged.{IsUnopened, Judges};
 ghost use Rattle.aip_sim.specs.Turns.{HasEnded, IsOpened};
 
 use crate::ends::RunEnd;
-use crate::schedules::LONGEST_LINE;
 use crate::topologies::{is_built, read_topology};
 use crate::turns::{Turn, take_line};
 use aip_core::Core;
 use aip_io::{Lines, Shelf, Sink};
+use aip_text::LONGEST_LINE;
 use std::alloc::Global;
 
 // A run before its first line.

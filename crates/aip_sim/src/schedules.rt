@@ -9,15 +9,9 @@ ghost use Rattle.aip_sim.specs.Schedules.{IsJudged, IsNextOf, IsScheduled};
 use crate::ends::RunEnd;
 use aip_event::{Input, read_input};
 use aip_io::{Got, Lines, Shelf};
-use aip_rules::StepFault;
-use aip_text::{has_carriage_return, is_skipped};
+use aip_rules::{MOST_LINES, StepFault};
+use aip_text::{LONGEST_LINE, has_carriage_return, is_skipped};
 use std::alloc::Global;
-
-/// The most lines of a schedule.
-pub const MOST_LINES: u32 = 65_536;
-
-/// The most bytes of a line.
-pub const LONGEST_LINE: usize = 20_000;
 
 /// What the next line of a schedule is.
 #[derive(Drop)]

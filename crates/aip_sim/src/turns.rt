@@ -41,13 +41,7 @@ fn is_built(input: &Input) -> bool
 }
 
 // Ends the run at a refused line, whose refusal line is written.
-fn refuse<K: Sink>(
-    alloc: Global,
-    core: Core,
-    number: u32,
-    fault: StepFault,
-    out: &mut K,
-) -> Turn
+fn refuse<K: Sink>(alloc: Global, core: Core, number: u32, fault: StepFault, out: &mut K) -> Turn
     ensures told { (topo : Topology) (lines : List (List ℕ)) (start : Option (List ℕ)) (whole : Ran)
         → IsRefusedHere topo core number fault start (K.taken out.old) whole
         → IsTurn topo number lines start (K.taken out.new) whole result }
@@ -69,13 +63,7 @@ fn refuse<K: Sink>(
 }
 
 // Writes the lines of a step to this core, and goes on with it.
-fn go_on<K: Sink>(
-    alloc: Global,
-    core: Core,
-    line: &[u8],
-    events: &[Event],
-    out: &mut K,
-) -> Turn
+fn go_on<K: Sink>(alloc: Global, core: Core, line: &[u8], events: &[Event], out: &mut K) -> Turn
     ensures told { (topo : Topology) (number : ℕ) (lines : List (List ℕ)) (start : Option (List ℕ)) (whole : Ran)
         → IsStepped topo core number lines line.now events.now start (K.taken out.old) whole
         → IsTurn topo number lines start (K.taken out.new) whole result }
