@@ -1,21 +1,18 @@
 -- The links as they are after a trace, once one more link is cut or mended.
-use Rattle.std.proofs.Common.{◌≡◌, ◌≢◌, ℕ, zero, suc, ◌+◌, ◌≤◌, ◌==◌, Bool, true, false, cond, List, [], ◌∷◌, ◌++◌, rules, refl, ap, sym, ◌∙◌, zero-add, arith}
-use Rattle.std.specs.Prelude.{reverse}
-use Rattle.std.proofs.lemmas.Grind.{common_steps}
+use Rattle.std.proofs.Common.{◌≡◌, ◌≢◌, ℕ, zero, suc, ◌+◌, ◌≤◌, ◌==◌, Bool, true, false, cond, List, [], ◌∷◌, length, refl, ap, sym, ◌∙◌, zero-add, arith}
 use Rattle.std.proofs.lemmas.Bool.Decides.{nat_tests}
 use Rattle.domain_routes.specs.declared.Edge.{Edge}
 use Rattle.aip_topo.specs.declared.topology.Part.{Part}
 use Rattle.aip_topo.specs.declared.topology.Part.TheVariants.{Host, Link}
 use Rattle.aip_topo.specs.declared.topology.Topology.{Topology}
 use Rattle.aip_event.specs.declared.input.Input.{Input}
-use Rattle.aip_event.specs.declared.input.Input.TheVariants.{Tick, Send, Raw, Deliver, Inject, Cut, Mend, Shutoff, Restart, Stop}
+use Rattle.aip_event.specs.declared.input.Input.TheVariants.{Cut, Mend}
 use Rattle.aip_rules.specs.declared.Entry.{Entry}
 use Rattle.aip_rules.specs.declared.Entry.TheVariants.{Taken}
 use Rattle.aip_rules.specs.State.{is_up}
 use Rattle.aip_rules.specs.Nodes.{links_after, links_of, ports_in}
 use Rattle.aip_rules.specs.Routes.{links_by, links_now}
-use Rattle.aip_core.specs.Network.{with_link}
-use Rattle.aip_core.specs.Linked.{links_with}
+use Rattle.aip_core.specs.Machine.{with_link, links_with}
 
 -- an edge with its test
 abbrev pub tested : Edge → Bool → Edge
@@ -57,18 +54,7 @@ other_test l k a b ne = grind (arith, nat_tests)
 pub links_with_input : (topo : Topology) (tr : List Entry) (input : Input) → links_with input (links_now topo tr) ≡ links_now topo (Taken input ∷ tr)
 links_with_input topo tr (Cut link) = with_is_by (is_up tr) (is_up (Taken (Cut link) ∷ tr)) false 0 link (links_of topo) (same_test_at link false tr) (λ k ne. sym (other_test link k false (is_up tr k) (λ e. ne (e ∙ sym (zero-add link)))))
 links_with_input topo tr (Mend link) = with_is_by (is_up tr) (is_up (Taken (Mend link) ∷ tr)) true 0 link (links_of topo) (same_test_at link true tr) (λ k ne. sym (other_test link k true (is_up tr k) (λ e. ne (e ∙ sym (zero-add link)))))
-links_with_input topo tr (Tick ticks) = refl
-links_with_input topo tr (Send host node packet body) = refl
-links_with_input topo tr (Raw host bytes) = refl
-links_with_input topo tr (Deliver flight) = refl
-links_with_input topo tr (Inject target bytes) = refl
-links_with_input topo tr (Shutoff host flight ttl) = refl
-links_with_input topo tr (Restart node) = refl
-links_with_input topo tr (Stop host call byte) = refl
-
--- what is added at the end is the first of the reversed list
-pub reversed : (entries : List Entry) (entry : Entry) → reverse (entries ++ entry ∷ []) ≡ entry ∷ reverse entries
-reversed entries entry = search (rules, common_steps)
+links_with_input topo tr input = refl
 
 -- before any input all links are up
 pub links_at_start : (before parts : List Part) (n : ℕ) → links_after before parts ≡ links_by (is_up []) n (links_after before parts)
@@ -76,3 +62,10 @@ links_at_start before [] n = refl
 links_at_start before (Host host ∷ parts) n = links_at_start (Host host ∷ before) parts n
 links_at_start before (Link link ∷ parts) n =
     ap (λ rest. record { a = link.a; a_port = ports_in before link.a; b = link.b; b_port = ports_in before link.b; up = true } ∷ rest) (links_at_start (Link link ∷ before) parts (n + 1))
+
+-- there are as many links as before
+pub length-links_now : (topo : Topology) (tr : List Entry) → length (links_now topo tr) ≡ length (links_of topo)
+length-links_now topo tr = as_many (is_up tr) 0 (links_of topo) where
+  as_many : (up : ℕ → Bool) (n : ℕ) (es : List Edge) → length (links_by up n es) ≡ length es
+  as_many up n [] = refl
+  as_many up n (e ∷ es) = ap suc (as_many up (n + 1) es)

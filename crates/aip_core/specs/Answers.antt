@@ -1,12 +1,22 @@
 -- How a step ends that takes no input.
-use Rattle.std.specs.Prelude.{◌≡◌, Err, ⊤}
+use Rattle.std.specs.Prelude.{◌≡◌, List, Err, ⊤}
 use Rattle.aip_event.specs.declared.input.Input.{Input}
+use Rattle.aip_topo.specs.declared.topology.Topology.{Topology}
+use Rattle.aip_rules.specs.declared.Entry.{Entry}
 use Rattle.aip_rules.specs.Step.{step_of}
 use Rattle.aip_core.specs.Kept.{Kept}
+use Rattle.aip_core.specs.Machine.{kept_reaction}
+use Rattle.aip_core.specs.StandsFor.{StandsFor}
 use Rattle.aip_core.specs.declared.engine.StepEnd.{StepEnd}
 use Rattle.aip_core.specs.declared.engine.StepEnd.TheVariants.{Refused, Memory}
 
--- a refusal gives the core back as it was, with the fault that the rules give
+-- a refusal gives the core back as it was, with the fault that the rules give for every trace that it stands for
 abbrev pub IsRefusal : Kept → Input → StepEnd → Type 0
-IsRefusal kept input (Refused core fault) = (core ≡ kept) × (step_of kept.topo kept.trace input ≡ Err fault)
+IsRefusal kept input (Refused core fault) =
+    (core ≡ kept) × ((topo : Topology) (tr : List Entry) → StandsFor topo tr kept → step_of topo tr input ≡ Err fault)
 IsRefusal kept input Memory = ⊤
+
+-- a refusal gives the core back as it was, with the fault that comes of what is kept
+abbrev pub IsKeptRefusal : Kept → Input → StepEnd → Type 0
+IsKeptRefusal kept input (Refused core fault) = (core ≡ kept) × (kept_reaction kept input ≡ Err fault)
+IsKeptRefusal kept input Memory = ⊤

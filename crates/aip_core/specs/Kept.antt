@@ -1,16 +1,14 @@
 -- What contracts see of a core.
-use Rattle.std.specs.Prelude.{List}
-use Rattle.aip_event.specs.declared.event.Event.{Event}
-use Rattle.aip_event.specs.declared.input.Input.{Input}
+use Rattle.std.specs.Prelude.{ℕ, List}
+use Rattle.domain_routes.specs.declared.Edge.{Edge}
 use Rattle.aip_topo.specs.declared.topology.Topology.{Topology}
-use Rattle.aip_rules.specs.declared.Entry.{Entry}
-use Rattle.aip_rules.specs.Step.{after_step}
+use Rattle.aip_rules.specs.declared.Flight.{Flight}
 
--- a topology, and the trace of what happened on it, the newest entry first
+-- a topology, and what stands after the inputs so far: the links as they are, the flights in the order in which they were
+-- put, the time, and the number of inputs
 pub record Kept : Type 0 where
   pub topo : Topology
-  pub trace : List Entry
-
--- what is kept once an input was taken and its events came
-abbrev pub kept_after : Kept → Input → List Event → Kept
-kept_after kept input events = record { topo = kept.topo; trace = after_step kept.trace input events }
+  pub links : List Edge
+  pub flights : List Flight
+  pub ticks : ℕ
+  pub inputs : ℕ

@@ -1,9 +1,9 @@
-pub mod Places
-pub mod Network
-pub mod Standing
-pub mod Routed
 pub mod Kept
+pub mod Machine
 pub mod StandsFor
 pub mod Answers
-pub mod Linked
-pub mod Sides
+pub mod Places
+pub mod Directory
+pub mod Wiring
+pub mod Routes
+pub mod Rooms

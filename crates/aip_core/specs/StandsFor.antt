@@ -1,16 +1,27 @@
--- What a core keeps of its trace.
-use Rattle.std.specs.Prelude.{◌≡◌, ◌<◌, ◌≤◌, ◌^◌, length, reverse}
-use Rattle.aip_rules.specs.State.{now_of, input_count, flights_of}
+-- The trace that a core stands for.
+use Rattle.std.specs.Prelude.{◌≡◌, ℕ, false, List, Ok, Err}
+use Rattle.aip_event.specs.declared.event.Event.{Event}
+use Rattle.aip_event.specs.declared.input.Input.{Input}
+use Rattle.aip_topo.specs.declared.topology.Topology.{Topology}
+use Rattle.aip_rules.specs.declared.Entry.{Entry}
+use Rattle.aip_rules.specs.State.{now_of, input_count, flights_of, is_down}
 use Rattle.aip_rules.specs.Routes.{links_now}
-use Rattle.aip_core.specs.declared.engine.Core.TheInside.{Inside}
+use Rattle.aip_rules.specs.Step.{step_of, after_step}
+use Rattle.aip_core.specs.Kept.{Kept}
 
--- the core stands for the trace of its entries: the links, the flights, the time and the number of inputs are those of
--- the trace, the time is below 2^48, the inputs are at most 65,536, and there are no more flights than inputs
-pub record StandsFor (core : Inside) : Type 0 where
-  pub links : core.network.links ≡ links_now core.network.topo (reverse core.entries.items)
-  pub flights : core.flights.items ≡ flights_of (reverse core.entries.items)
-  pub time : core.ticks ≡ now_of (reverse core.entries.items)
-  pub inputs : core.inputs ≡ input_count (reverse core.entries.items)
-  pub early : core.ticks < 2 ^ 48
-  pub few : core.inputs ≤ 65536
-  pub put : length core.flights.items ≤ core.inputs
+-- what is kept stands for a trace on a topology: it is this topology, with the links, the flights, the time and the number
+-- of inputs of the trace, and the trace left every host up
+pub record StandsFor (topo : Topology) (tr : List Entry) (kept : Kept) : Type 0 where
+  pub topology : kept.topo ≡ topo
+  pub links : kept.links ≡ links_now topo tr
+  pub flights : kept.flights ≡ flights_of tr
+  pub time : kept.ticks ≡ now_of tr
+  pub inputs : kept.inputs ≡ input_count tr
+  pub up : (name : List ℕ) → is_down tr name ≡ false
+
+-- for every trace that is stood for before: the events are those that the rules give, and what is kept after them stands
+-- for the trace with the input and these events on top
+abbrev pub IsStep : Kept → Input → Kept → List Event → Type 0
+IsStep kept input after events =
+    (topo : Topology) (tr : List Entry) → StandsFor topo tr kept
+    → (step_of topo tr input ≡ Ok events) × StandsFor topo (after_step tr input events) after

@@ -1,15 +1,29 @@
 //! The network as it runs: nodes, links, flights and time, moved by one input at a time.
 //!
-//! A `Core` takes inputs and gives the events that the rules of the network give, and an input that the rules refuse
-//! leaves it as it was.
+//! A `Core` takes inputs and gives the events that the rules of the network give. It keeps no trace, and stands for one:
+//! its contracts say what a step does for every trace that the core stands for. An input that the rules refuse leaves the
+//! core as it was.
+//!
+//! ```text
+//! let mut core = Core::new(alloc, topology)?;
+//! for input in inputs {
+//!     let (next, events) = core.step(alloc, input)?;
+//!     core = next;
+//!     // the events are written, and dropped
+//! }
+//! ```
 #![tactic(auto)]
 
-mod arrivals;
-mod copies;
+mod directory;
 mod engine;
-mod network;
+mod flights;
+mod host;
+mod index;
 mod places;
-mod routed;
+mod reactions;
+mod router;
+mod routes;
+mod wiring;
 
 pub use aip_rules::{Entry, Flight, StepFault};
 pub use engine::{Core, StepEnd};

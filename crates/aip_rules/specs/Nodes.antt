@@ -1,7 +1,7 @@
 -- Where the nodes of a topology stand: names, addresses, and what lies at each port. A router's ports are numbered from
 -- 0 in the order of the host and link lines that name it, so a port's number is how many of the router's ports the
 -- lines before it take.
-use Rattle.std.specs.Prelude.{ℕ, suc, ◌+◌, ◌==◌, ◌&&◌, Bool, true, false, if◌then◌else◌, List, [], ◌∷◌, find, position, slice_get, Option, Some, None}
+use Rattle.std.specs.Prelude.{ℕ, ◌+◌, ◌==◌, ◌&&◌, Bool, true, false, if◌then◌else◌, List, [], ◌∷◌, ◌++◌, find, position, slice_get, Option, Some, None}
 use Rattle.std.specs.Str.{bytes_eq}
 use Rattle.aip_addr.specs.declared.ids.Id.{Id}
 use Rattle.aip_addr.specs.declared.ids.Address.{Address}
@@ -10,11 +10,15 @@ use Rattle.aip_event.specs.declared.input.Target.TheVariants as target
 use Rattle.aip_topo.specs.declared.topology.Domain.{Domain}
 use Rattle.aip_topo.specs.declared.topology.Router.{Router}
 use Rattle.aip_topo.specs.declared.topology.HostPart.{HostPart}
+use Rattle.aip_topo.specs.declared.topology.Key.{Key}
+use Rattle.aip_topo.specs.declared.topology.Key.TheVariants as key
 use Rattle.aip_topo.specs.declared.topology.Part.{Part}
 use Rattle.aip_topo.specs.declared.topology.Part.TheVariants.{Host, Link}
 use Rattle.aip_topo.specs.declared.topology.Topology.{Topology}
 use Rattle.domain_routes.specs.declared.Edge.{Edge}
 use Rattle.aip_rules.specs.declared.Seat.{Seat}
+use Rattle.aip_rules.specs.declared.Neighbour.{Neighbour}
+use Rattle.aip_rules.specs.declared.Neighbour.TheVariants as neighbour
 
 -- two addresses are the same
 abbrev pub is_same_address : Address → Address → Bool
@@ -75,15 +79,26 @@ seat_named seats name = find (λ seat. bytes_eq seat.name name) seats
 abbrev pub seat_with_address : List Seat → Address → Option Seat
 seat_with_address seats address = find (λ seat. is_same_address seat.address address) seats
 
--- the position of the router of this name
+-- the key was made from a seed
+abbrev pub is_made : Key → Bool
+is_made key.Given = false
+is_made (key.Made tree) = true
+
+-- the host of this name has a key
+abbrev pub has_key : List Part → List ℕ → Bool
+has_key [] name = false
+has_key (Host host ∷ parts) name = if bytes_eq host.name name then is_made host.key else has_key parts name
+has_key (Link link ∷ parts) name = has_key parts name
+
+-- the place of the router of this name
 abbrev pub router_named : List Router → List ℕ → Option ℕ
 router_named routers name = position (λ router. bytes_eq router.name name) routers
 
--- the position of the router with this address
+-- the place of the router with this address
 abbrev pub router_with_address : List Router → Address → Option ℕ
 router_with_address routers address = position (λ router. is_same_address router.address address) routers
 
--- the position of the domain with this id
+-- the place of the domain with this id
 abbrev pub domain_with_ad : List Domain → Id → Option ℕ
 domain_with_ad domains ad = position (λ domain. bytes_eq domain.ad.bytes ad.bytes) domains
 
@@ -103,29 +118,38 @@ abbrev pub name_in : Option Router → List ℕ
 name_in None = []
 name_in (Some router) = router.name
 
--- the name of the router at a position
+-- the name of the router at a place
 abbrev pub name_at : List Router → ℕ → List ℕ
 name_at routers router = name_in (slice_get routers router)
 
--- the other end of the first of these links that has an end at this port of the router: that router and its port
-abbrev pub far_end : List Edge → ℕ → ℕ → Option (ℕ × ℕ)
-far_end [] router port = None
-far_end (e ∷ es) router port =
-    if (e.a == router) && (e.a_port == port) then Some (e.b, e.b_port) else
-    if (e.b == router) && (e.b_port == port) then Some (e.a, e.a_port) else
-    far_end es router port
+-- what lies at the next ports of a router that a host line or a link line takes, where the lines `before` stand before it
+abbrev pub neighbours_by : List Part → Part → ℕ → List Neighbour
+neighbours_by before (Host host) router = if host.router == router then neighbour.Host host.name ∷ [] else []
+neighbours_by before (Link link) router =
+    (if link.a == router then neighbour.Link link.b (ports_in before link.b) link.a_trusts ∷ [] else [])
+    ++ (if link.b == router then neighbour.Link link.a (ports_in before link.a) link.b_trusts ∷ [] else [])
 
--- the host that stands at this port of the router
-abbrev pub seat_at : List Seat → ℕ → ℕ → Option Seat
-seat_at seats router port = find (λ seat. (seat.router == router) && (seat.port == port)) seats
+-- what lies at the ports of a router that these lines take, where the lines `before` stand before them
+abbrev pub neighbours_after : List Part → List Part → ℕ → List Neighbour
+neighbours_after before [] router = []
+neighbours_after before (part ∷ parts) router =
+    neighbours_by before part router ++ neighbours_after (part ∷ before) parts router
 
--- what a frame on a port goes towards: the host there, or the other router's port; a port with nothing at it is its own
-abbrev pub target_of : List Router → Option Seat → Option (ℕ × ℕ) → ℕ → ℕ → Target
-target_of routers (Some seat) far router port = target.Host seat.name
-target_of routers None (Some far) router port = target.Port (name_at routers far.0) far.1
-target_of routers None None router port = target.Port (name_at routers router) port
+-- what lies at the ports of a router, in the order of the ports: a host, or a link's end with the port at its other end
+-- and whether this router trusts what comes over it
+abbrev pub neighbours_of : Topology → ℕ → List Neighbour
+neighbours_of topo router = neighbours_after [] topo.parts router
 
--- what a frame that a router puts on a port goes towards
-abbrev pub target_at : Topology → List Edge → ℕ → ℕ → Target
-target_at topo links router port =
-    target_of topo.routers (seat_at (seats_of topo) router port) (far_end links router port) router port
+-- what lies at a port of a router
+abbrev pub neighbour_at : Topology → ℕ → ℕ → Option Neighbour
+neighbour_at topo router port = slice_get (neighbours_of topo router) port
+
+-- where a frame goes that is put towards what lies at a port; a port with nothing at it is its own
+abbrev pub target_towards : List Router → Option Neighbour → ℕ → ℕ → Target
+target_towards routers (Some (neighbour.Host name)) router port = target.Host name
+target_towards routers (Some (neighbour.Link other far trusted)) router port = target.Port (name_at routers other) far
+target_towards routers None router port = target.Port (name_at routers router) port
+
+-- where a frame goes that a router puts on a port
+abbrev pub target_at : Topology → ℕ → ℕ → Target
+target_at topo router port = target_towards topo.routers (neighbour_at topo router port) router port

@@ -1,47 +1,52 @@
 -- What happens where a flight arrives at a router.
-use Rattle.std.specs.Prelude.{ℕ, ◌-◌, Bool, true, false, if◌then◌else◌, nat_le, List, [], ◌∷◌, Option, Some, None}
+use Rattle.std.specs.Prelude.{ℕ, ◌-◌, Bool, true, false, if◌then◌else◌, nat_le, List, Option, Some, None}
 use Rattle.aip_frame.specs.declared.frame.Frame.{Frame}
 use Rattle.aip_frame.specs.Frame.{frame_bytes, frame_of}
-use Rattle.aip_event.specs.declared.event.Event.{Event}
-use Rattle.aip_event.specs.declared.event.Event.TheVariants.{Put, Forward, Drop}
+use Rattle.aip_event.specs.declared.event.Event.TheVariants.{Forward}
+use Rattle.aip_event.specs.declared.event.Cause.{Cause}
 use Rattle.aip_event.specs.declared.event.Cause.TheVariants.{Open}
-use Rattle.aip_event.specs.declared.event.Reason.{Reason}
 use Rattle.aip_event.specs.declared.event.Reason.TheVariants as reason
 use Rattle.aip_topo.specs.declared.topology.Router.{Router}
 use Rattle.aip_topo.specs.declared.topology.Topology.{Topology}
-use Rattle.domain_routes.specs.declared.Edge.{Edge}
+use Rattle.aip_rules.specs.declared.Entry.{Entry}
+use Rattle.aip_rules.specs.declared.Reaction.{Reaction}
 use Rattle.aip_rules.specs.Nodes.{target_at, is_same_address}
-use Rattle.aip_rules.specs.Routes.{port_of}
+use Rattle.aip_rules.specs.Routes.{port_to}
+use Rattle.aip_rules.specs.Reaction.{dropped, happens_and_puts}
 
--- a node drops what arrived, for a reason
-abbrev pub dropped : List ℕ → Reason → List Event
-dropped name reason = Drop name reason ∷ []
+-- where a flight arrives: a router at its place among the routers, and its port
+pub record Arrival : Type 0 where
+  pub place : ℕ
+  pub self : Router
+  pub port : ℕ
 
 -- the frame with its hop limit lowered by one
 abbrev pub one_hop_less : Frame → Frame
 one_hop_less frame = record frame { hop = frame.hop - 1 }
 
--- an open router forwards the frame on the port towards its destination, where there is one
-abbrev pub forwarded : Topology → List Edge → ℕ → ℕ → Router → ℕ → Frame → Option ℕ → List Event
-forwarded topo links number router self port frame None = dropped self.name reason.NoRoute
-forwarded topo links number router self port frame (Some out) =
-    Forward self.name port out Open
-    ∷ Put number (target_at topo links router out) (frame_bytes (one_hop_less frame)) ∷ []
+-- the router forwards a frame on the port `out` for a cause
+abbrev pub forwarded : Topology → Arrival → ℕ → Cause → Frame → Reaction
+forwarded topo at out cause frame =
+    happens_and_puts (Forward at.self.name at.port out cause) (target_at topo at.place out) (frame_bytes (one_hop_less frame))
 
--- a frame that isn't for the router itself: one without hops left is dropped, and any other is forwarded
-abbrev pub passed : Topology → List Edge → ℕ → ℕ → Router → ℕ → Frame → List Event
-passed topo links number router self port frame =
-    if nat_le frame.hop 1 then dropped self.name reason.Hops else
-    forwarded topo links number router self port frame (port_of topo links router self frame.to)
+-- a frame that has a hop left and isn't for the router: without a port towards its destination it is dropped. Every
+-- router is open: what a checking router does is still to come, and no topology that is run has one.
+abbrev pub passed : Topology → Arrival → Frame → Option ℕ → Reaction
+passed topo at frame None = dropped at.self.name reason.NoRoute
+passed topo at frame (Some out) = forwarded topo at out Open frame
 
--- a frame at an open router: one for the router itself is dropped as its own, and any other passes
-abbrev pub frame_at_router : Topology → List Edge → ℕ → ℕ → Router → ℕ → Option Frame → List Event
-frame_at_router topo links number router self port None = dropped self.name reason.Bad
-frame_at_router topo links number router self port (Some frame) =
-    if is_same_address self.address frame.to then dropped self.name reason.Mine else
-    passed topo links number router self port frame
+-- a frame at a router, by the first line that applies: it is for the router itself, it has no hop left, or it passes
+abbrev pub frame_at_router : Topology → List Entry → Arrival → Frame → Reaction
+frame_at_router topo tr at frame =
+    if is_same_address at.self.address frame.to then dropped at.self.name reason.Mine else
+    if nat_le frame.hop 1 then dropped at.self.name reason.Hops else
+    passed topo at frame (port_to topo tr at.place at.self frame.to)
 
--- what happens where these bytes arrive at a port of a router, over the links as they are, where the next flight has
--- this number. Every router is open: what a checking router does is still to come, and no topology that is run has one.
-abbrev pub at_router : Topology → List Edge → ℕ → ℕ → Router → ℕ → List ℕ → List Event
-at_router topo links number router self port bytes = frame_at_router topo links number router self port (frame_of bytes)
+-- a frame, or bytes that are none, at a router
+abbrev pub taken_at_router : Topology → List Entry → Arrival → Option Frame → Reaction
+taken_at_router topo tr at None = dropped at.self.name reason.Bad
+taken_at_router topo tr at (Some frame) = frame_at_router topo tr at frame
+
+-- what happens where these bytes arrive at a port of a router
+abbrev pub at_router : Topology → List Entry → Arrival → List ℕ → Reaction
+at_router topo tr at bytes = taken_at_router topo tr at (frame_of bytes)

@@ -53,15 +53,21 @@ abbrev pub port_of_seat : ℕ → Option Seat → Option ℕ
 port_of_seat router None = None
 port_of_seat router (Some seat) = if seat.router == router then Some seat.port else None
 
--- the port towards an address that isn't the router's own: that of its own host, or else the port towards the goal
-abbrev pub port_past : Topology → List Edge → ℕ → Router → Address → Option ℕ → Option ℕ
-port_past topo links router self address (Some port) = Some port
-port_past topo links router self address None = port_to_goal topo links router (goal_of topo self.domain address)
+-- the first port, or else the second
+abbrev pub port_or : Option ℕ → Option ℕ → Option ℕ
+port_or None second = second
+port_or (Some port) second = Some port
 
--- the port of a router towards an address: none for its own, the port of a host that stands at it, or else the lowest
--- port whose link is up and whose neighbour is one step nearer to the address's goal, over the links as they are
-abbrev pub port_of : Topology → List Edge → ℕ → Router → Address → Option ℕ
-port_of topo links router self address =
+-- the port of a router towards an address over these links: none for its own, the port of a host that stands at it, or
+-- else the lowest port whose link is up and whose neighbour is one step nearer to the address's goal
+abbrev pub port_over : Topology → List Edge → ℕ → Router → Address → Option ℕ
+port_over topo links router self address =
     if is_same_address self.address address
     then None
-    else port_past topo links router self address (port_of_seat router (seat_with_address (seats_of topo) address))
+    else port_or
+    (port_of_seat router (seat_with_address (seats_of topo) address))
+    (port_to_goal topo links router (goal_of topo self.domain address))
+
+-- the port of a router towards an address, over the links as they are after a trace
+abbrev pub port_to : Topology → List Entry → ℕ → Router → Address → Option ℕ
+port_to topo tr router self address = port_over topo (links_now topo tr) router self address

@@ -1,10 +1,11 @@
 -- What stands after a trace. A trace is a list of entries, the newest first: each input that was taken, and on top of
 -- it its events.
-use Rattle.std.specs.Prelude.{ℕ, suc, ◌+◌, ◌==◌, Bool, true, false, if◌then◌else◌, List, [], ◌∷◌, ◌++◌, length, slice_get, Option}
+use Rattle.std.specs.Prelude.{ℕ, ◌+◌, ◌==◌, Bool, true, false, if◌then◌else◌, List, [], ◌∷◌, ◌++◌, length, slice_get, Option}
+use Rattle.std.specs.Str.{bytes_eq}
 use Rattle.aip_event.specs.declared.input.Input.{Input}
-use Rattle.aip_event.specs.declared.input.Input.TheVariants.{Tick, Cut, Mend}
+use Rattle.aip_event.specs.declared.input.Input.TheVariants.{Tick, Cut, Mend, Restart}
 use Rattle.aip_event.specs.declared.event.Event.{Event}
-use Rattle.aip_event.specs.declared.event.Event.TheVariants.{Put}
+use Rattle.aip_event.specs.declared.event.Event.TheVariants.{Put, Stopped}
 use Rattle.aip_rules.specs.declared.Entry.{Entry}
 use Rattle.aip_rules.specs.declared.Entry.TheVariants.{Taken, Happened}
 use Rattle.aip_rules.specs.declared.Flight.{Flight}
@@ -45,6 +46,21 @@ flight_at tr k = slice_get (flights_of tr) k
 abbrev pub flight_count : List Entry → ℕ
 flight_count tr = length (flights_of tr)
 
+-- the input starts the node of this name anew
+abbrev pub is_restart_of : Input → List ℕ → Bool
+is_restart_of (Restart node) name = bytes_eq node name
+is_restart_of _ name = false
+
+-- one restart, where the input starts the node of this name anew
+abbrev pub restarts_in : Input → List ℕ → ℕ
+restarts_in input name = if is_restart_of input name then 1 else 0
+
+-- how often the node of this name was started anew
+abbrev pub restarts_of : List Entry → List ℕ → ℕ
+restarts_of [] name = 0
+restarts_of (Taken input ∷ tr) name = restarts_in input name + restarts_of tr name
+restarts_of (Happened event ∷ tr) name = restarts_of tr name
+
 -- whether a link is up after an input, where it was so before
 abbrev pub after_input : Input → ℕ → Bool → Bool
 after_input (Cut link) l before = if link == l then false else before
@@ -56,3 +72,14 @@ abbrev pub is_up : List Entry → ℕ → Bool
 is_up [] l = true
 is_up (Taken input ∷ tr) l = after_input input l (is_up tr l)
 is_up (Happened event ∷ tr) l = is_up tr l
+
+-- the event brings the host of this name down: a stop of one of its disks was met
+abbrev pub is_fall_of : Event → List ℕ → Bool
+is_fall_of (Stopped host leaf call byte) name = bytes_eq host name
+is_fall_of _ name = false
+
+-- the host of this name is down: since its last restart a stop of one of its disks was met
+abbrev pub is_down : List Entry → List ℕ → Bool
+is_down [] name = false
+is_down (Taken input ∷ tr) name = if is_restart_of input name then false else is_down tr name
+is_down (Happened event ∷ tr) name = if is_fall_of event name then true else is_down tr name

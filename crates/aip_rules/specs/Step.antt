@@ -2,12 +2,10 @@
 use Rattle.std.specs.Prelude.{ℕ, ◌+◌, ◌^◌, ◌==◌, ◌||◌, Bool, true, false, if◌then◌else◌, nat_lt, nat_le, List, [], ◌∷◌, length, slice_get, Option, Some, None, Result, Ok, Err}
 use Rattle.aip_addr.specs.declared.ids.Address.{Address}
 use Rattle.aip_frame.specs.declared.frame.Frame.{Frame}
-use Rattle.aip_frame.specs.declared.frame.Kind.TheVariants.{Data}
-use Rattle.aip_frame.specs.Frame.{frame_bytes}
+use Rattle.aip_frame.specs.Frame.{frame_bytes, frame_of, most_body}
 use Rattle.aip_event.specs.declared.input.Input.{Input}
-use Rattle.aip_event.specs.declared.input.Input.TheVariants.{Tick, Send, Deliver, Cut, Mend}
+use Rattle.aip_event.specs.declared.input.Input.TheVariants.{Tick, Send, Raw, Deliver, Inject, Cut, Mend, Shutoff, Restart, Stop}
 use Rattle.aip_event.specs.declared.event.Event.{Event}
-use Rattle.aip_event.specs.declared.event.Event.TheVariants.{Put}
 use Rattle.aip_event.specs.declared.input.Target.{Target}
 use Rattle.aip_event.specs.declared.input.Target.TheVariants as target
 use Rattle.aip_topo.specs.declared.topology.Router.{Router}
@@ -15,15 +13,15 @@ use Rattle.aip_topo.specs.declared.topology.Topology.{Topology}
 use Rattle.aip_rules.specs.declared.Entry.{Entry}
 use Rattle.aip_rules.specs.declared.Entry.TheVariants.{Taken, Happened}
 use Rattle.aip_rules.specs.declared.Flight.{Flight}
+use Rattle.aip_rules.specs.declared.Reaction.{Reaction}
 use Rattle.aip_rules.specs.declared.Seat.{Seat}
 use Rattle.aip_rules.specs.declared.StepFault.{StepFault}
 use Rattle.aip_rules.specs.declared.StepFault.TheVariants as fault
-use Rattle.aip_rules.specs.State.{now_of, input_count, flight_at, flight_count}
-use Rattle.aip_rules.specs.Nodes.{seats_of, seat_named, router_named, address_named, name_at}
-use Rattle.domain_routes.specs.declared.Edge.{Edge}
-use Rattle.aip_rules.specs.Routes.{links_now}
+use Rattle.aip_rules.specs.State.{now_of, input_count, flight_at}
+use Rattle.aip_rules.specs.Nodes.{seats_of, seat_named, router_named, address_named, links_of, neighbours_of, has_key}
+use Rattle.aip_rules.specs.Reaction.{nothing, puts, events_on}
 use Rattle.aip_rules.specs.Router.{at_router}
-use Rattle.aip_rules.specs.Host.{at_host}
+use Rattle.aip_rules.specs.Host.{at_host, put_by, sent_frame}
 
 -- the inputs that are built: time, sending, delivering, and links cut and mended
 abbrev pub is_built : Input → Bool
@@ -34,77 +32,152 @@ is_built (Cut link) = true
 is_built (Mend link) = true
 is_built _ = false
 
+-- what an input that isn't built yet comes to is still to come; no run takes one
+abbrev pub still_to_come : Reaction
+still_to_come = nothing
+
+-- the most bytes that are put at once
+abbrev pub most_bytes : ℕ
+most_bytes = 9216
+
+-- so many bytes can be put: at least one, and no more than the most
+abbrev pub can_be_put : ℕ → Bool
+can_be_put count = if count == 0 then false else nat_le count most_bytes
+
+-- the outcome, unless a test refuses it
+abbrev pub refused_if : Bool → StepFault → Result Reaction StepFault → Result Reaction StepFault
+refused_if test fault outcome = if test then Err fault else outcome
+
 -- time moves by at least one tick and stays below 2^48
-abbrev pub tick_of : ℕ → ℕ → Result (List Event) StepFault
-tick_of now ticks = if (ticks == 0) || nat_le (2 ^ 48) (now + ticks) then Err fault.Range else Ok []
-
--- the data frame that a host sends: hop limit 64, its own address as source
-abbrev pub sent_frame : Address → Address → ℕ → List ℕ → Frame
-sent_frame to from packet body =
-    record { kind = Data; hop = 64; packet = packet; to = to; from = from; body = body }
-
--- what a host hands down goes towards its port of its router
-abbrev pub handed_down : Topology → ℕ → Seat → List ℕ → List Event
-handed_down topo number seat bytes = Put number (target.Port (name_at topo.routers seat.router) seat.port) bytes ∷ []
+abbrev pub ticked : ℕ → ℕ → Result Reaction StepFault
+ticked now ticks = refused_if ((ticks == 0) || nat_le (2 ^ 48) (now + ticks)) fault.Range (Ok nothing)
 
 -- a host sends a data frame: both ends are known, the packet id is below 2^32, and the body fits a frame
-abbrev pub send_of : Topology → ℕ → Option Seat → Option Address → ℕ → List ℕ → Result (List Event) StepFault
-send_of topo number None to packet body = Err fault.Unknown
-send_of topo number (Some seat) None packet body = Err fault.Unknown
-send_of topo number (Some seat) (Some to) packet body =
-    if nat_le (2 ^ 32) packet || nat_lt 9126 (length body)
-    then Err fault.Range
-    else Ok (handed_down topo number seat (frame_bytes (sent_frame to seat.address packet body)))
+abbrev pub sent : Topology → List Entry → Option Seat → Option Address → ℕ → List ℕ → Result Reaction StepFault
+sent topo tr None to packet body = Err fault.Unknown
+sent topo tr (Some seat) None packet body = Err fault.Unknown
+sent topo tr (Some seat) (Some to) packet body =
+    refused_if (nat_le (2 ^ 32) packet || nat_lt most_body (length body)) fault.Range
+    (Ok (put_by topo tr seat (frame_bytes (sent_frame to seat.address packet body))))
 
--- the events at a router of this position, if there is one
-abbrev pub arrives_at_router : Topology → List Edge → ℕ → ℕ → Option Router → ℕ → List ℕ → List Event
-arrives_at_router topo links number router None port bytes = []
-arrives_at_router topo links number router (Some self) port bytes = at_router topo links number router self port bytes
+-- a host puts bytes as they are
+abbrev pub put_raw : Topology → List Entry → Option Seat → List ℕ → Result Reaction StepFault
+put_raw topo tr None bytes = Err fault.Unknown
+put_raw topo tr (Some seat) bytes =
+    if can_be_put (length bytes) then Ok (put_by topo tr seat bytes) else Err fault.Range
 
--- the events at the router of this name, if there is one
-abbrev pub arrives_at_port : Topology → List Edge → ℕ → Option ℕ → ℕ → List ℕ → List Event
-arrives_at_port topo links number None port bytes = []
-arrives_at_port topo links number (Some router) port bytes =
-    arrives_at_router topo links number router (slice_get topo.routers router) port bytes
+-- what happens where bytes arrive at the router at this place, if there is one
+abbrev pub arrives_at_router : Topology → List Entry → ℕ → Option Router → ℕ → List ℕ → Reaction
+arrives_at_router topo tr place None port bytes = nothing
+arrives_at_router topo tr place (Some self) port bytes =
+    at_router topo tr (record { place = place; self = self; port = port }) bytes
 
--- the events at the host of this name, if there is one
-abbrev pub arrives_at_seat : Option Seat → List ℕ → List Event
-arrives_at_seat None bytes = []
-arrives_at_seat (Some seat) bytes = at_host seat bytes
+-- what happens where bytes arrive at a port of a router, if there is one of this name
+abbrev pub arrives_at_port : Topology → List Entry → Option ℕ → ℕ → List ℕ → Reaction
+arrives_at_port topo tr None port bytes = nothing
+arrives_at_port topo tr (Some place) port bytes =
+    arrives_at_router topo tr place (slice_get topo.routers place) port bytes
 
--- the events where bytes arrive at a target, over the links as they are, where the next flight has this number
-abbrev pub arrives : Topology → List Edge → ℕ → Target → List ℕ → List Event
-arrives topo links number (target.Port name port) bytes =
-    arrives_at_port topo links number (router_named topo.routers name) port bytes
-arrives topo links number (target.Host name) bytes = arrives_at_seat (seat_named (seats_of topo) name) bytes
+-- what happens where bytes arrive at a host, if there is one of this name
+abbrev pub arrives_at_seat : List Entry → Option Seat → List ℕ → Reaction
+arrives_at_seat tr None bytes = nothing
+arrives_at_seat tr (Some seat) bytes = at_host tr seat bytes
+
+-- what happens where bytes arrive at a target
+abbrev pub arrives : Topology → List Entry → Target → List ℕ → Reaction
+arrives topo tr (target.Port name port) bytes = arrives_at_port topo tr (router_named topo.routers name) port bytes
+arrives topo tr (target.Host name) bytes = arrives_at_seat tr (seat_named (seats_of topo) name) bytes
 
 -- a flight is delivered to its target, if it was put
-abbrev pub deliver_of : Topology → List Entry → Option Flight → Result (List Event) StepFault
-deliver_of topo tr None = Err fault.NoFlight
-deliver_of topo tr (Some flight) = Ok (arrives topo (links_now topo tr) (flight_count tr) flight.target flight.bytes)
+abbrev pub delivered : Topology → List Entry → Option Flight → Result Reaction StepFault
+delivered topo tr None = Err fault.NoFlight
+delivered topo tr (Some flight) = Ok (arrives topo tr flight.target flight.bytes)
+
+-- bytes come from outside towards a port of a router that is there
+abbrev pub injected_at_port : Topology → Option ℕ → Target → ℕ → List ℕ → Result Reaction StepFault
+injected_at_port topo None to port bytes = Err fault.Unknown
+injected_at_port topo (Some place) to port bytes =
+    refused_if (nat_le (length (neighbours_of topo place)) port) fault.Range
+    (if can_be_put (length bytes) then Ok (puts to bytes) else Err fault.Range)
+
+-- bytes come from outside towards a host
+abbrev pub injected_at_host : Option Seat → Target → List ℕ → Result Reaction StepFault
+injected_at_host None to bytes = Err fault.Unknown
+injected_at_host (Some seat) to bytes = if can_be_put (length bytes) then Ok (puts to bytes) else Err fault.Range
+
+-- bytes come from outside towards a target
+abbrev pub injected : Topology → Target → List ℕ → Result Reaction StepFault
+injected topo (target.Port name port) bytes =
+    injected_at_port topo (router_named topo.routers name) (target.Port name port) port bytes
+injected topo (target.Host name) bytes = injected_at_host (seat_named (seats_of topo) name) (target.Host name) bytes
 
 -- a link is cut or mended: it is there
-abbrev pub link_of : List Edge → ℕ → Result (List Event) StepFault
-link_of links link = if nat_lt link (length links) then Ok [] else Err fault.Range
+abbrev pub relinked : Topology → ℕ → Result Reaction StepFault
+relinked topo link = if nat_lt link (length (links_of topo)) then Ok nothing else Err fault.Range
 
--- what comes of an input, where one more may be taken. The other inputs are still to come, and no schedule that is run
--- has one.
-abbrev pub outcome_of : Topology → List Entry → Input → Result (List Event) StepFault
-outcome_of topo tr (Tick ticks) = tick_of (now_of tr) ticks
+-- the bytes are a frame
+abbrev pub is_some_frame : Option Frame → Bool
+is_some_frame None = false
+is_some_frame (Some frame) = true
+
+-- a flight that was put, and whose bytes are a frame, is named by a shut-off
+abbrev pub is_named_frame : Option Flight → Bool
+is_named_frame None = false
+is_named_frame (Some flight) = is_some_frame (frame_of flight.bytes)
+
+-- a host signs a shut-off of a flight: the host is known, the flight is a frame, the time is below 2^32, and the host has
+-- a key
+abbrev pub shut_off : Topology → Option Seat → Option Flight → ℕ → Result Reaction StepFault
+shut_off topo None flight ttl = Err fault.Unknown
+shut_off topo (Some seat) flight ttl =
+    if is_named_frame flight then
+    refused_if (nat_le (2 ^ 32) ttl) fault.Range
+    (if has_key topo.parts seat.name then Ok still_to_come else Err fault.Keyless)
+    else Err fault.NoFlight
+
+-- a node starts anew: it is known
+abbrev pub restarted : Option Address → Result Reaction StepFault
+restarted None = Err fault.Unknown
+restarted (Some address) = Ok nothing
+
+-- a stop of a host's signing is armed: the host is known and has a key, the call is 1 or 2, and the byte is one
+abbrev pub stop_armed : Topology → Option Seat → ℕ → ℕ → Result Reaction StepFault
+stop_armed topo None call byte = Err fault.Unknown
+stop_armed topo (Some seat) call byte =
+    refused_if ((call == 0) || (nat_lt 2 call || nat_le 256 byte)) fault.Range
+    (if has_key topo.parts seat.name then Ok nothing else Err fault.Keyless)
+
+-- what comes of an input, where one more may be taken: the first fault that applies, or a reaction
+abbrev pub outcome_of : Topology → List Entry → Input → Result Reaction StepFault
+outcome_of topo tr (Tick ticks) = ticked (now_of tr) ticks
 outcome_of topo tr (Send host node packet body) =
-    send_of topo (flight_count tr) (seat_named (seats_of topo) host) (address_named topo node) packet body
-outcome_of topo tr (Deliver flight) = deliver_of topo (Taken (Deliver flight) ∷ tr) (flight_at tr flight)
-outcome_of topo tr (Cut link) = link_of (links_now topo tr) link
-outcome_of topo tr (Mend link) = link_of (links_now topo tr) link
-outcome_of topo tr _ = Ok []
+    sent topo tr (seat_named (seats_of topo) host) (address_named topo node) packet body
+outcome_of topo tr (Raw host bytes) = put_raw topo tr (seat_named (seats_of topo) host) bytes
+outcome_of topo tr (Deliver flight) = delivered topo tr (flight_at tr flight)
+outcome_of topo tr (Inject to bytes) = injected topo to bytes
+outcome_of topo tr (Cut link) = relinked topo link
+outcome_of topo tr (Mend link) = relinked topo link
+outcome_of topo tr (Shutoff host flight ttl) =
+    shut_off topo (seat_named (seats_of topo) host) (flight_at tr flight) ttl
+outcome_of topo tr (Restart node) = restarted (address_named topo node)
+outcome_of topo tr (Stop host call byte) = stop_armed topo (seat_named (seats_of topo) host) call byte
 
 -- the most inputs of a trace
 abbrev pub most_inputs : ℕ
 most_inputs = 65536
 
+-- what comes of an input: Many where no further one may be taken, or else what the input itself comes to
+abbrev pub reaction_of : Topology → List Entry → Input → Result Reaction StepFault
+reaction_of topo tr input = refused_if (nat_le most_inputs (input_count tr)) fault.Many (outcome_of topo tr input)
+
+-- the events of a reaction on a trace, where the input isn't refused
+abbrev pub events_of : List Entry → Result Reaction StepFault → Result (List Event) StepFault
+events_of tr (Ok reaction) = Ok (events_on tr reaction)
+events_of tr (Err f) = Err f
+
 -- a step: the first fault that applies, or the events that come of the input
 abbrev pub step_of : Topology → List Entry → Input → Result (List Event) StepFault
-step_of topo tr input = if nat_le most_inputs (input_count tr) then Err fault.Many else outcome_of topo tr input
+step_of topo tr input = events_of tr (reaction_of topo tr input)
 
 -- the trace with these events on top, the last of them newest
 abbrev pub with_events : List Event → List Entry → List Entry
@@ -114,3 +187,18 @@ with_events (event ∷ events) tr = with_events events (Happened event ∷ tr)
 -- the trace after an input was taken and its events came
 abbrev pub after_step : List Entry → Input → List Event → List Entry
 after_step tr input events = with_events events (Taken input ∷ tr)
+
+-- what follows a step: nothing where it is refused
+abbrev pub goes_on : Result (List Event) StepFault → (List Event → Option (List Entry)) → Option (List Entry)
+goes_on (Ok events) go = go events
+goes_on (Err f) go = None
+
+-- the trace of these inputs, the first first, from a trace on; none where one of them is refused
+abbrev pub trace_from : Topology → List Entry → List Input → Option (List Entry)
+trace_from topo tr [] = Some tr
+trace_from topo tr (input ∷ inputs) =
+    goes_on (step_of topo tr input) (λ events. trace_from topo (after_step tr input events) inputs)
+
+-- the trace of these inputs, the first first; none where one of them is refused
+abbrev pub trace_of : Topology → List Input → Option (List Entry)
+trace_of topo inputs = trace_from topo [] inputs

@@ -1,5 +1,5 @@
 -- What is written for a topology and a schedule, and how the run ends.
-use Rattle.std.specs.Prelude.{ℕ, ◌+◌, Bool, true, false, if◌then◌else◌, nat_lt, List, [], ◌∷◌, ◌++◌, length, codes, Option, Some, None, Result, Ok, Err}
+use Rattle.std.specs.Prelude.{◌≡◌, ℕ, ◌+◌, ◌-◌, Bool, true, false, if◌then◌else◌, nat_lt, List, [], ◌∷◌, ◌++◌, length, take, codes, Option, Some, None, Result, Ok, Err}
 use Rattle.std.specs.List.{list_all}
 use Rattle.std.specs.Fmt.{decimal}
 use Rattle.aip_text.specs.Lines.{lines_of, is_skipped, has_carriage_return}
@@ -18,7 +18,7 @@ use Rattle.aip_rules.specs.declared.Entry.{Entry}
 use Rattle.aip_rules.specs.declared.Entry.TheVariants.{Taken, Happened}
 use Rattle.aip_rules.specs.declared.StepFault.{StepFault}
 use Rattle.aip_rules.specs.declared.StepFault.TheVariants as fault
-use Rattle.aip_rules.specs.Step.{is_built, step_of, after_step}
+use Rattle.aip_rules.specs.Step.{is_built, step_of, after_step, trace_of}
 
 -- the number of a fault of a schedule line, as a refusal line writes it
 abbrev pub fault_number : StepFault → ℕ
@@ -66,13 +66,14 @@ scheduled number line =
     if is_skipped line then Ok None else
     input_or_form (input_of line)
 
--- how a run ends: the schedule is done, the topology or the schedule is refused at a line for a fault, or a topology or
--- an input is outside of what is built
+-- how a run ends: the schedule is done, the topology or the schedule is refused at a line for a fault, or the topology
+-- or an input on a line is outside of what is built
 pub data Ending : Type 0 where
   Done : Ending
   Topology_refused : (line : ℕ) → TopoFault → Ending
   Schedule_refused : (line : ℕ) → StepFault → Ending
-  Unbuilt : Ending
+  Topology_unbuilt : Ending
+  Input_unbuilt : (line : ℕ) → Ending
 
 -- what a schedule comes to: the trace of the inputs before its end or its first refused line, and how it ends
 pub record Ran : Type 0 where
@@ -89,7 +90,7 @@ abbrev pub by_input : Topology → List Entry → ℕ → (List Entry → Ran) �
 by_input topo tr number go input =
     if is_built input
     then by_step tr number input go (step_of topo tr input)
-    else record { trace = tr; ending = Unbuilt }
+    else record { trace = tr; ending = Input_unbuilt number }
 
 -- the run takes a line: it ends where the line is refused, and goes on behind a skipped line
 abbrev pub by_line : Topology → List Entry → ℕ → (List Entry → Ran) → Result (Option Input) StepFault → Ran
@@ -121,16 +122,24 @@ abbrev pub is_built_topology : Topology → Bool
 is_built_topology topo = if list_all is_open topo.routers then list_all is_plain topo.parts else false
 
 -- the run over what a topology text gives; nothing is run where it is refused or not built
+<<<<<<< HEAD
 abbrev pub ran_over : Result Topology RefusedLine → List ℕ → Ran
 ran_over (Ok topo) schedule = if is_built_topology topo then ran topo schedule else record { trace = []; ending = Unbuilt }
 ran_over (Err refused) schedule = record { trace = []; ending = Topology_refused refused.line refused.fault }
+=======
+abbrev pub ran_over : Result Topology TopoEnd → List ℕ → Ran
+ran_over (Ok topo) schedule = if is_built_topology topo then ran topo schedule else record { trace = []; ending = Topology_unbuilt }
+ran_over (Err (topo_end.Line line f)) schedule = record { trace = []; ending = Topology_refused line f }
+ran_over (Err topo_end.Memory) schedule = record { trace = []; ending = Topology_unbuilt }
+>>>>>>> 14e9178b90bdc306d9d92e350e3a138e52af4eba
 
 -- what ends the text: a refusal line where a line of the schedule is refused
 abbrev pub ending_text : Ending → List ℕ
 ending_text (Schedule_refused line f) = refusal_line line f
 ending_text Done = []
 ending_text (Topology_refused line f) = []
-ending_text Unbuilt = []
+ending_text Topology_unbuilt = []
+ending_text (Input_unbuilt line) = []
 
 -- the text of a run: that of its trace, and the refusal line where there is one
 abbrev pub text_of_run : Ran → List ℕ
@@ -143,3 +152,26 @@ output_of topology schedule = text_of_run (ran_over (topology_of topology) sched
 -- how the run of the two files ends
 abbrev pub end_of : List ℕ → List ℕ → Ending
 end_of topology schedule = (ran_over (topology_of topology) schedule).ending
+
+-- the lines of a schedule before the one that ends its run, where the first of them has this number
+abbrev pub lines_before : ℕ → Ending → List (List ℕ) → List (List ℕ)
+lines_before number (Schedule_refused line f) lines = take (line - number) lines
+lines_before number (Input_unbuilt line) lines = take (line - number) lines
+lines_before number Done lines = lines
+lines_before number (Topology_refused line f) lines = []
+lines_before number Topology_unbuilt lines = []
+
+-- the input of a line, if it has one
+abbrev pub inputs_in_line : Option Input → List Input
+inputs_in_line None = []
+inputs_in_line (Some input) = input ∷ []
+
+-- the inputs of these lines, in their order, without the skipped ones
+abbrev pub inputs_in : List (List ℕ) → List Input
+inputs_in [] = []
+inputs_in (line ∷ lines) = (if is_skipped line then [] else inputs_in_line (input_of line)) ++ inputs_in lines
+
+-- the trace of a run is that of the inputs on the lines before the one that ends it
+abbrev pub IsTraceOfLines : Topology → List ℕ → Type 0
+IsTraceOfLines topo schedule =
+    trace_of topo (inputs_in (lines_before 1 (ran topo schedule).ending (lines_of schedule))) ≡ Some (ran topo schedule).trace

@@ -6,8 +6,13 @@
 
 ghost use Rattle.std.specs.Prelude.{◌≡◌};
 
+mod laws;
+
+pub use laws::{a_run_has_the_trace_of_its_lines, an_input_puts_at_most_one_flight};
+
 use aip_addr::{Address, Bytes, Name};
-use aip_event::{Event, Input, Target};
+use aip_event::{Event, Events, Input, Target};
+use thiserror::Error;
 
 /// An entry of a trace: an input that was taken, or an event that came of the input below it.
 #[derive(Debug, Drop)]
@@ -25,12 +30,40 @@ pub struct Flight {
     pub bytes: Bytes,
 }
 
+/// What a node does where something reaches it.
+#[derive(Debug, Drop)]
+pub struct Reaction {
+    /// The events, the first first.
+    pub events: Events,
+    /// The flight that it puts behind these events, if it puts one. Its number is the network's to give.
+    pub put: Option<Flight>,
+}
+
+/// What lies at a port of a router.
+#[derive(Clone, Copy, Debug, PartialEq, Eq)]
+pub enum Neighbour {
+    /// A host.
+    Host {
+        /// Its name.
+        name: Name,
+    },
+    /// An end of a link.
+    Link {
+        /// The place of the router at its other end.
+        router: u16,
+        /// The port of that router.
+        port: u16,
+        /// Whether the router on this side trusts what comes over the link.
+        trusted: bool,
+    },
+}
+
 /// Where a host stands: at a port of a router, with its address.
 #[derive(Clone, Copy, Debug)]
 pub struct Seat {
     /// The host's name.
     pub name: Name,
-    /// The position of its router.
+    /// The place of its router among the routers.
     pub router: u16,
     /// The router's port that it stands at.
     pub port: u16,
@@ -39,21 +72,28 @@ pub struct Seat {
 }
 
 /// Why a line of a schedule is refused. A step of the network gives all but `Form` and `Long`.
-#[derive(Clone, Copy, Debug, PartialEq, Eq)]
+#[derive(Clone, Copy, Debug, PartialEq, Eq, Error)]
 pub enum StepFault {
     /// The line is outside the grammar of inputs.
+    #[error("no line of a schedule")]
     Form,
     /// A name isn't one of the kind that is asked for.
+    #[error("no such host or router")]
     Unknown,
     /// No such flight was put.
+    #[error("no such flight")]
     NoFlight,
     /// A number or a length is out of its range.
+    #[error("out of range")]
     Range,
     /// The host has no key.
+    #[error("a host without a key")]
     Keyless,
     /// The line's number is above 65,536, or 65,536 inputs were taken.
+    #[error("too many lines")]
     Many,
     /// The line has more than 20,000 bytes.
+    #[error("too long")]
     Long,
 }
 

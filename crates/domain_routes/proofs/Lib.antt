@@ -4,3 +4,4 @@ pub mod SpreadLemmas
 pub mod SearchLemmas
 pub mod RowLemmas
 pub mod PortLemmas
+pub mod AddedWays

@@ -9,7 +9,8 @@ use Rattle.domain_routes.specs.declared.Goal.{Goal}
 use Rattle.domain_routes.specs.declared.Goal.TheVariants.{Domain, Router}
 use Rattle.domain_routes.specs.declared.Routes.{Routes}
 use Rattle.domain_routes.specs.Walks.{ways, is_in_goal, has_walk, distance, is_one_less, lower_of, lowest, nearer_ports, port_towards, NoWalk, IsLeastWalk, DistancesAreLeast, IsLowestStep, HasNoStep}
-use Rattle.domain_routes.specs.Rows.{AreRows}
+use Rattle.domain_routes.specs.Rows.{AreRows, port_in, IsGoalRoutesOf}
+use Rattle.domain_routes.specs.declared.GoalRoutes.{GoalRoutes}
 use Rattle.domain_routes.specs.Table.{port_of, IsRoutesOf}
 use Rattle.domain_routes.proofs.WayLemmas.{walk-first, walk-more, walk-zero}
 use Rattle.domain_routes.proofs.RowLemmas.{port-none}
@@ -216,4 +217,14 @@ pub port_nowhere : (routes : Routes) (router : ℕ) (goal : Goal) (answer : Opti
 port_nowhere routes router goal answer is domains edges h = (
   λ none. none_no_step domains edges goal router (h.law goal) (sym (is ∙ h.ports router goal) ∙ none_is answer none),
   λ nowhere. is_none_of answer (is ∙ h.ports router goal ∙ no_step_none domains edges goal router (h.law goal) nowhere),
+)
+
+-- what a port of the routes to a goal says, for the graph whose routes these are
+pub goal_port_lowest : (routes : GoalRoutes) (router : ℕ) (answer : Option ℕ) → answer ≡ port_in routes router → (domains : List ℕ) (edges : List Edge) (goal : Goal) → IsGoalRoutesOf routes domains edges goal → IfSome answer (IsLowestStep domains edges goal router)
+goal_port_lowest routes router answer is domains edges goal h = if_some answer (IsLowestStep domains edges goal router) (λ p e. port-some domains edges goal router p (sym (is ∙ h.ports router) ∙ e))
+
+pub goal_port_nowhere : (routes : GoalRoutes) (router : ℕ) (answer : Option ℕ) → answer ≡ port_in routes router → (domains : List ℕ) (edges : List Edge) (goal : Goal) → IsGoalRoutesOf routes domains edges goal → IsNone answer ↔ HasNoStep domains edges goal router
+goal_port_nowhere routes router answer is domains edges goal h = (
+  λ none. none_no_step domains edges goal router h.law (sym (is ∙ h.ports router) ∙ none_is answer none),
+  λ nowhere. is_none_of answer (is ∙ h.ports router ∙ no_step_none domains edges goal router h.law nowhere),
 )

@@ -1,10 +1,29 @@
 -- The levels of a search from the goal outwards: a router's level is its distance, as far as the search has come.
-use Rattle.std.specs.Prelude.{◌≡◌, ℕ, suc, ◌<◌, Bool, true, ◌⊎◌, List, [], ◌∷◌, length, Option, Some, None, slice_index_or, if◌then◌else◌, Vec, Contains, slice_get}
+use Rattle.std.specs.Prelude.{◌≡◌, ℕ, suc, ◌<◌, ◌==◌, ◌&&◌, ◌++◌, Bool, true, ◌⊎◌, List, [], ◌∷◌, length, Option, Some, None, slice_index_or, if◌then◌else◌, Vec, Contains, slice_get}
 use Rattle.std.specs.declared.alloc.Global.{Global}
 use Rattle.domain_routes.specs.declared.Edge.{Edge}
 use Rattle.domain_routes.specs.declared.Way.{Way}
 use Rattle.domain_routes.specs.declared.Goal.{Goal}
-use Rattle.domain_routes.specs.Walks.{ways, is_in_goal, distance, DistancesAreLeast}
+use Rattle.domain_routes.specs.Walks.{ways, way_if, is_in_goal, distance, DistancesAreLeast}
+
+-- the ways in a row, if there is one
+abbrev pub ways_in : Option (Vec Way Global) → List Way
+ways_in None = []
+ways_in (Some row) = row.items
+
+-- the ways in a router's row, none where it has no row
+abbrev pub row_of : List (Vec Way Global) → ℕ → List Way
+row_of all router = ways_in (slice_get all router)
+
+-- the router is this one
+abbrev pub is_at : ℕ → ℕ → Bool
+is_at router other = router == other
+
+-- the ways out of a router along one link, if it is up
+abbrev pub ways_by : Edge → ℕ → List Way
+ways_by e router =
+    way_if (e.up && (e.a == router)) (record { port = e.a_port; neighbour = e.b })
+    ++ way_if (e.up && (e.b == router)) (record { port = e.b_port; neighbour = e.a })
 
 -- these are the ways out of each router of the graph
 pub record AreWays (domains : List ℕ) (edges : List Edge) (all : List (Vec Way Global)) : Type 0 where

@@ -3,6 +3,7 @@ use Rattle.std.specs.Prelude.{◌≡◌, ℕ, List, Vec, Option, Some, None, sli
 use Rattle.std.specs.declared.alloc.Global.{Global}
 use Rattle.domain_routes.specs.declared.Edge.{Edge}
 use Rattle.domain_routes.specs.declared.Goal.{Goal}
+use Rattle.domain_routes.specs.declared.GoalRoutes.{GoalRoutes}
 use Rattle.domain_routes.specs.Walks.{port_towards, DistancesAreLeast}
 
 -- the port of a router, by an option of a row
@@ -18,6 +19,14 @@ entry_of rows goal router = entry_in (slice_get rows goal) router
 pub record IsRow (domains : List ℕ) (edges : List Edge) (goal : Goal) (row : List (Option ℕ)) : Type 0 where
   pub ports : (router : ℕ) → slice_index_or row router None ≡ port_towards domains edges router goal
   pub law : DistancesAreLeast domains edges goal
+
+-- the port that the routes to a goal hold for a router
+abbrev pub port_in : GoalRoutes → ℕ → Option ℕ
+port_in routes router = slice_index_or routes.ports.items router None
+
+-- the routes are those to the goal over the graph with these domains of routers and these links
+abbrev pub IsGoalRoutesOf : GoalRoutes → List ℕ → List Edge → Goal → Type 0
+IsGoalRoutesOf routes domains edges goal = IsRow domains edges goal routes.ports.items
 
 -- the rows, and none past them, hold the ports towards each goal of the kind
 pub record AreRows (domains : List ℕ) (edges : List Edge) (kind : ℕ → Goal) (rows : List (Vec (Option ℕ) Global)) : Type 0 where

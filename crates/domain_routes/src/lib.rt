@@ -25,9 +25,11 @@
 
 ghost use Rattle.std.specs.Prelude.{◌≡◌, ◌↔◌, ℕ, List, IfOk, IfSome, IsNone, IsTrue};
 ghost use Rattle.domain_routes.specs.declared.Edge.{Edge as Link};
+ghost use Rattle.domain_routes.specs.declared.Goal.{Goal as Towards};
 ghost use Rattle.domain_routes.specs.Walks.{IsSound, port_towards, DistancesAreLeast};
 ghost use Rattle.domain_routes.specs.Walks.{IsLowestStep, HasNoStep};
 ghost use Rattle.domain_routes.specs.Table.{port_of, IsRoutesOf};
+ghost use Rattle.domain_routes.specs.Rows.{port_in, IsGoalRoutesOf};
 
 use std::alloc::{AllocError, Global};
 
@@ -134,5 +136,43 @@ impl Routes {
             Goal::Domain(domain) => rows::entry(&self.by_domain, domain, router),
             Goal::Router(target) => rows::entry(&self.by_router, target, router),
         }
+    }
+}
+
+/// The ports of all routers towards one goal.
+#[derive(Debug, Drop)]
+pub struct GoalRoutes {
+    /// The port of each router.
+    ports: Vec<Option<u16>>,
+}
+
+impl GoalRoutes {
+    /// The routes to a goal over a graph of at most 256 routers. The only error is that memory runs out.
+    pub fn compute(alloc: Global, graph: &Graph, goal: Goal) -> Result<GoalRoutes, AllocError>
+        requires { IsSound graph.now.domains.items graph.now.edges.items }
+        ensures { IfOk result (λ routes.
+            IsGoalRoutesOf routes graph.now.domains.items graph.now.edges.items goal) }
+    {
+        let ways = ways::all_ways(alloc, graph)?;
+        let ports = rows::row(alloc, graph, &ways, goal)?;
+        Ok(GoalRoutes { ports })
+    }
+
+    /// The port of the router towards the goal, as `Routes::port` gives it.
+    #[tactic(auto, using(crate::proofs::PortLemmas::goal_port_lowest))]
+    pub fn port(&self, router: u16) -> Option<u16>
+        ensures held { result ≡ port_in self.now router }
+
+        // For the graph and the goal whose routes these are: the port, and what that means.
+        ensures towards { (domains : List ℕ) (edges : List Link) (goal : Towards) → IsGoalRoutesOf self.now domains edges goal
+            → result ≡ port_towards domains edges router goal }
+        ensures lowest { (domains : List ℕ) (edges : List Link) (goal : Towards) → IsGoalRoutesOf self.now domains edges goal
+            → IfSome result (IsLowestStep domains edges goal router) }
+        ensures none { (domains : List ℕ) (edges : List Link) (goal : Towards) → IsGoalRoutesOf self.now domains edges goal
+            → (IsNone result ↔ HasNoStep domains edges goal router) }
+        ensures least { (domains : List ℕ) (edges : List Link) (goal : Towards) → IsGoalRoutesOf self.now domains edges goal
+            → DistancesAreLeast domains edges goal }
+    {
+        self.ports.get(router as usize).copied().flatten()
     }
 }

@@ -43,7 +43,7 @@ fn lowest_port(ways: &[Way], distances: &[Option<u16>], own: Option<u16>) -> Opt
 }
 
 /// The port of each router towards the goal.
-fn row(
+pub(crate) fn row(
     alloc: Global,
     graph: &Graph,
     ways: &[Vec<Way>],

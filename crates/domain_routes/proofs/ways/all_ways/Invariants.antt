@@ -1,5 +1,6 @@
-use Rattle.domain_routes.proofs.WayLemmas.{AreWaysUpTo}
+use Rattle.std.proofs.Common.{drop, length}
+use Rattle.domain_routes.proofs.AddedWays.{AreWaysSoFar}
 use Rattle.domain_routes.proofs.ways.all_ways.Given as goal
 
-abbrev pub invariant-loop-router : goal.invariant-loop-router
-invariant-loop-router l = AreWaysUpTo l.graph.edges.items l.router l.all.items
+abbrev pub invariant-links : goal.invariant-links
+invariant-links l = AreWaysSoFar (length l.graph.domains.items) l.graph.edges.items (drop l.edge-index l.graph.edges.items) l.all.items

@@ -1,12 +1,18 @@
-use Rattle.std.proofs.Common.{◌≤◌, sym, subst}
-use Rattle.aip_rules.specs.State.{input_count, flight_count}
-use Rattle.aip_core.specs.Kept.{Kept}
-use Rattle.aip_core.proofs.Puts.{few_flights}
+use Rattle.std.proofs.Common.{ℕ, ◌+◌, ◌≤◌, List, length}
+use Rattle.std.proofs.lemmas.Result.{IfOk-weaker, IfErr-weaker}
+use Rattle.aip_core.proofs.Correspond.{step_is, refusal_is}
+use Rattle.aip_core.proofs.Modest.{step_puts, step_adds}
 use Rattle.aip_core.proofs.engine.Core.step.Goals as goal
 
-pub with_events-requires : goal.with_events-requires
-with_events-requires c =
-    let few : flight_count c.args.self.trace ≤ input_count c.args.self.trace =
-    subst (λ (k : Kept). flight_count k.trace ≤ input_count k.trace) c.self.view_is (rw (sym c.self.invariant.flights, sym c.self.invariant.inputs) c.self.invariant.put) in
-    let comes = rw c.in-Ok.is at c.in_ok-core.ensures.events in
-    rw (c.as_slice.ensures, c.in_ok-core-in-Ok.ensures, c.in_ok-core.ensures.core) (few_flights c.args.self.topo c.args.self.trace c.args.input _ (sym comes) few)
+pub returns-clause-taken : goal.returns-clause-taken
+returns-clause-taken c =
+    IfOk-weaker c.take.result _ _ (λ taken h. step_is c.args.self c.args.input taken.0 taken.1 c.requires.built c.take.ensures.sound h) c.take.ensures.taken
+
+pub returns-clause-refused : goal.returns-clause-refused
+returns-clause-refused c = IfErr-weaker c.take.result _ _ (λ end h. refusal_is c.args.self c.args.input end c.requires.built h) c.take.ensures.refused
+
+pub returns-clause-flights : goal.returns-clause-flights
+returns-clause-flights c = IfOk-weaker c.take.result _ _ (λ taken h. step_adds c.args.self c.args.input taken.0 taken.1 h) c.take.ensures.taken
+
+pub returns-clause-puts : goal.returns-clause-puts
+returns-clause-puts c = IfOk-weaker c.take.result _ _ (λ taken h. step_puts c.args.self c.args.input taken.0 taken.1 c.take.ensures.sound h) c.take.ensures.taken

@@ -1,0 +1,15 @@
+use Rattle.std.proofs.Common.{rules, ◌≡◌, ◌∙◌, ap, List, ℕ, map}
+use Rattle.std.specs.List.{position_from}
+use Rattle.std.specs.Ordering.{is_eq}
+use Rattle.std.proofs.lemmas.Result.{IfOk-weaker}
+use Rattle.aip_addr.specs.declared.ids.Address.{Address}
+use Rattle.aip_rules.specs.declared.Seat.{Seat}
+use Rattle.aip_core.specs.Directory.{address_cmp}
+use Rattle.aip_core.proofs.Keys.{host_by_address}
+use Rattle.aip_core.proofs.directory.host_addresses.Goals as goal
+
+pub returns : goal.returns
+returns c =
+    IfOk-weaker c.places_of.result _ _ (λ places found key.
+    found key ∙ ap (λ (ks : List Address). position_from (λ other. is_eq (address_cmp other key)) 0 ks) (c.deref.ensures.value ∙ c.in_ok-addresses.ensures)
+    ∙ host_by_address c.args.seats.now key) c.places_of.ensures
