@@ -3,5 +3,4 @@ pub mod Steps
 pub mod Sizes
 pub mod Joined
 pub mod Accepted
-pub mod FourLanes
 pub mod PaddedBlock

@@ -1,18 +1,33 @@
--- The words of a padded block of 55 bytes, and the bytes of a hash value's words.
-use Rattle.std.proofs.Common.{◌≡◌, ℕ, zero, suc, ◌+◌, ◌-◌, ◌*◌, ◌/◌, ◌%◌, ◌^◌, ◌<◌, ◌≤◌, List, [], ◌∷◌, ◌++◌, length, take, slice_index, get_or, refl, sym, ap, ◌∙◌, subst, append_assoc, arith, length-append, lit<}
-use Rattle.std.specs.Int.{w16, w32, to_be_bytes}
-use Rattle.std.proofs.lemmas.List.{get_or_append_left, get_or-append_right, get_or-take, take_all, take_more}
-use Rattle.std.proofs.lemmas.Nat.{be_bytes_4}
-use Rattle.sha2.specs.Sha256.{compress, digest_bytes, hash_after, initial_hash_256, padded_message, padding, sha256, word_at}
-use Rattle.lmots_core.proofs.FourLanes.{each_lane}
+-- The words of a padded block of 55 bytes.
+use Rattle.std.proofs.Common.{◌≡◌, ℕ, zero, suc, ◌+◌, ◌*◌, ◌/◌, ◌%◌, ◌^◌, ◌<◌, List, [], ◌∷◌, ◌++◌, length, take, slice_index, get_or, refl, sym, ap, ◌∙◌, subst, append_assoc, arith, length-append, lit<}
+use Rattle.std.specs.Int.{w16, to_be_bytes}
+use Rattle.std.proofs.lemmas.List.{get_or_append_left, get_or-append_right, get_or-take}
+use Rattle.sha2.specs.Sha256.{digest_bytes, padded_message, padding, word_at}
 use Rattle.lmots_core.specs.Lanes.{IsHead, across, block_words, place_word}
+
+-- what holds of each of five words
+pub each_five : (P : ℕ → Type 0) → P 0 → P 1 → P 2 → P 3 → P 4 → (k : ℕ) → k < 5 → P k
+each_five P a b c d e zero h = a
+each_five P a b c d e (suc zero) h = b
+each_five P a b c d e (suc (suc zero)) h = c
+each_five P a b c d e (suc (suc (suc zero))) h = d
+each_five P a b c d e (suc (suc (suc (suc zero)))) h = e
+each_five P a b c d e (suc (suc (suc (suc (suc n))))) h = absurd (omega arith)
+
+-- what holds of each of four words
+each_four : (P : ℕ → Type 0) → P 0 → P 1 → P 2 → P 3 → (k : ℕ) → k < 4 → P k
+each_four P a b c d zero h = a
+each_four P a b c d (suc zero) h = b
+each_four P a b c d (suc (suc zero)) h = c
+each_four P a b c d (suc (suc (suc zero))) h = d
+each_four P a b c d (suc (suc (suc (suc n)))) h = absurd (omega arith)
 
 -- what holds of each of sixteen words
 pub each_word : (P : ℕ → Type 0) → P 0 → P 1 → P 2 → P 3 → P 4 → P 5 → P 6 → P 7 → P 8 → P 9 → P 10 → P 11 → P 12 → P 13 → P 14 → P 15 → (k : ℕ) → k < 16 → P k
 each_word P a0 a1 a2 a3 a4 a5 a6 a7 a8 a9 a10 a11 a12 a13 a14 a15 k h =
     let place : 4 * (k / 4) + k % 4 ≡ k = omega arith in
-    subst P place (each_lane (λ row. (col : ℕ) → col < 4 → P (4 * row + col))
-    (each_lane _ a0 a1 a2 a3) (each_lane _ a4 a5 a6 a7) (each_lane _ a8 a9 a10 a11) (each_lane _ a12 a13 a14 a15)
+    subst P place (each_four (λ row. (col : ℕ) → col < 4 → P (4 * row + col))
+    (each_four _ a0 a1 a2 a3) (each_four _ a4 a5 a6 a7) (each_four _ a8 a9 a10 a11) (each_four _ a12 a13 a14 a15)
     (k / 4) (omega arith) (k % 4) (omega arith))
 
 -- the bytes of a step's padded block behind the first 20
@@ -78,15 +93,6 @@ padded_words head p i n t0 t1 t2 t3 t4 t5 t6 t7 ish fits k b =
     (sym (word_behind p xs 40 ish.0))
     k b)
 
--- the hash of a message that fills one padded block
-pub sha256_block : (m : List ℕ) → length m ≡ 55 → sha256 m ≡ digest_bytes (compress initial_hash_256 (padded_message m)) 8
-unfolding sha256 hash_after
-sha256_block m h =
-    let len : length (padded_message m) ≡ 64 = length-append m (padding (length m)) ∙ ap (λ k. k + length (padding k)) h in
-    let one : length (padded_message m) / 64 ≡ 1 = ap (λ k. k / 64) len in
-    ap (λ k. digest_bytes (hash_after initial_hash_256 (padded_message m) k) 8) one
-    ∙ ap (λ b. digest_bytes (compress initial_hash_256 b) 8) (take_all 64 (padded_message m) (omega arith))
-
 pub length-step_message : (p t : List ℕ) (i n : ℕ) → length p ≡ 20 → length (p ++ to_be_bytes w16 i ++ n ∷ digest_bytes t 8) ≡ 55
 length-step_message = length-message
 
@@ -98,49 +104,3 @@ word_front b k h =
     let e2 = get_or-take 20 b (4 * k + 2) 0 (omega arith) in
     let e3 = get_or-take 20 b (4 * k + 3) 0 (omega arith) in
     rw (e0, e1, e2, e3) refl
-
-push_four : (ys : List ℕ) (a b c d : ℕ) → (((ys ++ a ∷ []) ++ b ∷ []) ++ c ∷ []) ++ d ∷ [] ≡ ys ++ (a ∷ b ∷ c ∷ d ∷ [])
-push_four ys a b c d = simp append_assoc
-
-four_fit : (a b c d : ℕ) → a < 256 → b < 256 → c < 256 → d < 256 → (i : ℕ) → get_or (a ∷ b ∷ c ∷ d ∷ []) i 0 < 256
-four_fit a b c d ha hb hc hd zero = ha
-four_fit a b c d ha hb hc hd (suc zero) = hb
-four_fit a b c d ha hb hc hd (suc (suc zero)) = hc
-four_fit a b c d ha hb hc hd (suc (suc (suc zero))) = hd
-four_fit a b c d ha hb hc hd (suc (suc (suc (suc n)))) = lit< tt
-
--- four bytes more of a string, written from their word
-four_more : (xs : List ℕ) (n : ℕ) → ((i : ℕ) → get_or xs i 0 < 256) → n + 4 ≤ length xs → take n xs ++ to_be_bytes w32 (word_at xs n) ≡ take (n + 4) xs
-four_more xs n fits h =
-    let four : List ℕ = get_or xs n 0 ∷ get_or xs (n + 1) 0 ∷ get_or xs (n + 2) 0 ∷ get_or xs (n + 3) 0 ∷ [] in
-    let bytes : to_be_bytes w32 (word_at xs n) ≡ get_or xs n 0 ∷ get_or xs (n + 1) 0 ∷ get_or xs (n + 2) 0 ∷ get_or xs (n + 3) 0 ∷ [] = be_bytes_4 four (word_at xs n) refl (four_fit _ _ _ _ (fits n) (fits (n + 1)) (fits (n + 2)) (fits (n + 3))) refl in
-    let e1 : take (n + 1) xs ≡ take n xs ++ get_or xs n 0 ∷ [] = take_more xs n 0 (omega arith) in
-    let e2 : take (n + 2) xs ≡ take (n + 1) xs ++ get_or xs (n + 1) 0 ∷ [] = ap (λ k. take k xs) (omega arith) ∙ take_more xs (n + 1) 0 (omega arith) in
-    let e3 : take (n + 3) xs ≡ take (n + 2) xs ++ get_or xs (n + 2) 0 ∷ [] = ap (λ k. take k xs) (omega arith) ∙ take_more xs (n + 2) 0 (omega arith) in
-    let e4 : take (n + 4) xs ≡ take (n + 3) xs ++ get_or xs (n + 3) 0 ∷ [] = ap (λ k. take k xs) (omega arith) ∙ take_more xs (n + 3) 0 (omega arith) in
-    ap (λ bs. take n xs ++ bs) bytes
-    ∙ sym (e4 ∙ ap (λ ys. ys ++ get_or xs (n + 3) 0 ∷ []) (e3 ∙ ap (λ ys. ys ++ get_or xs (n + 2) 0 ∷ []) (e2 ∙ ap (λ ys. ys ++ get_or xs (n + 1) 0 ∷ []) e1)) ∙ push_four (take n xs) _ _ _ _)
-
--- the bytes of a string's eight words
-pub bytes_of_words : (xs : List ℕ) → length xs ≡ 32 → ((i : ℕ) → get_or xs i 0 < 256)
-    → digest_bytes (word_at xs 0 ∷ word_at xs 4 ∷ word_at xs 8 ∷ word_at xs 12 ∷ word_at xs 16 ∷ word_at xs 20 ∷ word_at xs 24 ∷ word_at xs 28 ∷ []) 8 ≡ xs
-unfolding digest_bytes
-bytes_of_words xs h fits =
-    let e1 = four_more xs 0 fits (omega arith) in
-    let e2 = ap (λ front. front ++ to_be_bytes w32 (word_at xs 4)) e1 ∙ four_more xs 4 fits (omega arith) in
-    let e3 = ap (λ front. front ++ to_be_bytes w32 (word_at xs 8)) e2 ∙ four_more xs 8 fits (omega arith) in
-    let e4 = ap (λ front. front ++ to_be_bytes w32 (word_at xs 12)) e3 ∙ four_more xs 12 fits (omega arith) in
-    let e5 = ap (λ front. front ++ to_be_bytes w32 (word_at xs 16)) e4 ∙ four_more xs 16 fits (omega arith) in
-    let e6 = ap (λ front. front ++ to_be_bytes w32 (word_at xs 20)) e5 ∙ four_more xs 20 fits (omega arith) in
-    let e7 = ap (λ front. front ++ to_be_bytes w32 (word_at xs 24)) e6 ∙ four_more xs 24 fits (omega arith) in
-    let e8 = ap (λ front. front ++ to_be_bytes w32 (word_at xs 28)) e7 ∙ four_more xs 28 fits (omega arith) in
-    e8 ∙ take_all 32 xs (omega arith)
-
--- what holds of each of five words
-pub each_five : (P : ℕ → Type 0) → P 0 → P 1 → P 2 → P 3 → P 4 → (k : ℕ) → k < 5 → P k
-each_five P a b c d e zero h = a
-each_five P a b c d e (suc zero) h = b
-each_five P a b c d e (suc (suc zero)) h = c
-each_five P a b c d e (suc (suc (suc zero))) h = d
-each_five P a b c d e (suc (suc (suc (suc zero)))) h = e
-each_five P a b c d e (suc (suc (suc (suc (suc n))))) h = absurd (omega arith)

@@ -1,20 +1,6 @@
--- Four hashes side by side: each word is a vector, with one lane for each hash.
-use Rattle.std.specs.Prelude.{◌≡◌, ℕ, ◌+◌, ◌*◌, ◌/◌, ◌%◌, ◌^◌, ◌<◌, List, [], ◌∷◌, length, map, slice_index, slice_index_or}
+-- The words of a chain's steps.
+use Rattle.std.specs.Prelude.{◌≡◌, ℕ, ◌+◌, ◌*◌, ◌/◌, ◌%◌, ◌^◌, ◌<◌, List, [], ◌∷◌, length, slice_index}
 use Rattle.sha2.specs.Sha256.{word_at}
-
--- the words of lane j
-abbrev pub lane : ℕ → List (List ℕ) → List ℕ
-lane j words = map (λ word. slice_index word j) words
-
--- word k of lane j
-abbrev pub word_of : ℕ → List (List ℕ) → ℕ → ℕ
-word_of j words k = slice_index (slice_index_or words k []) j
-
--- the eight words of a hash value in lane j
-abbrev pub value_in : ℕ → List (List ℕ) → List ℕ
-value_in j words =
-    word_of j words 0 ∷ word_of j words 1 ∷ word_of j words 2 ∷ word_of j words 3
-    ∷ word_of j words 4 ∷ word_of j words 5 ∷ word_of j words 6 ∷ word_of j words 7 ∷ []
 
 -- the word of the last three bytes of word x and the first byte of word y
 abbrev pub across : ℕ → ℕ → ℕ

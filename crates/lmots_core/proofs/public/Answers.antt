@@ -1,7 +1,7 @@
 use Rattle.std.proofs.Common.{◌≡◌, ℕ, ◌+◌, ◌*◌, ◌<◌, min, arith}
 use Rattle.sha2.specs.Sha256.{digest_bytes}
 use Rattle.lmots_core.specs.Chains.{end_of, prefix}
-use Rattle.lmots_core.specs.Lanes.{value_in}
+use Rattle.sha256_lanes.specs.Lanes.{value_in}
 use Rattle.lmots_core.proofs.Joined.{joined_none}
 use Rattle.lmots_core.proofs.public.Goals as goal
 

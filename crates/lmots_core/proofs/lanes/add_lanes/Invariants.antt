@@ -2,7 +2,7 @@ use Rattle.std.proofs.Common.{◌≡◌, ℕ, ◌+◌, ◌<◌, List, ◌++◌}
 use Rattle.sha2.specs.Hashers.{Holds256}
 use Rattle.sha2.specs.Sha256.{digest_bytes}
 use Rattle.lmots_core.specs.Chains.{joined}
-use Rattle.lmots_core.specs.Lanes.{value_in}
+use Rattle.sha256_lanes.specs.Lanes.{value_in}
 use Rattle.lmots_core.proofs.lanes.add_lanes.Given as goal
 
 abbrev pub invariant-lanes : goal.invariant-lanes

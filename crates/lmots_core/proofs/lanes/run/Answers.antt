@@ -1,7 +1,7 @@
 use Rattle.std.proofs.Common.{refl, sym, ◌∙◌, ◌++◌, arith, slice_index}
 use Rattle.std.specs.Int.{w16, to_be_bytes}
 use Rattle.sha2.specs.Sha256.{digest_bytes}
-use Rattle.lmots_core.specs.Lanes.{value_in}
+use Rattle.sha256_lanes.specs.Lanes.{value_in}
 use Rattle.lmots_core.proofs.Steps.{steps_done, steps_more}
 use Rattle.lmots_core.proofs.lanes.run.Goals as goal
 

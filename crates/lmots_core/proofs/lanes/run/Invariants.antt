@@ -2,7 +2,8 @@ use Rattle.std.proofs.Common.{◌≡◌, ℕ, ◌-◌, ◌<◌, List, ◌++◌, 
 use Rattle.std.specs.Int.{w16, to_be_bytes}
 use Rattle.sha2.specs.Sha256.{digest_bytes}
 use Rattle.lmots_core.specs.Chains.{steps}
-use Rattle.lmots_core.specs.Lanes.{IsHead, value_in}
+use Rattle.sha256_lanes.specs.Lanes.{value_in}
+use Rattle.lmots_core.specs.Lanes.{IsHead}
 use Rattle.lmots_core.proofs.lanes.run.Given as goal
 
 -- the steps that are left lead where all of them lead

@@ -1,5 +1,0 @@
-use Rattle.lmots_core.proofs.FourLanes.{shifts_rotate}
-use Rattle.lmots_core.proofs.lanes.rotate.Goals as goal
-
-pub returns : goal.returns
-returns c = shifts_rotate c.args.k c.requires.0 c.requires.1 c.args.x c.fits-x.0

@@ -1,0 +1,3 @@
+pub mod FourLanes
+pub mod BytesOfWords
+pub mod OneBlock

@@ -1,0 +1,26 @@
+use Rattle.std.proofs.Common.{rules, ◌≡◌, ap, ◌∙◌, sym, refl, arith}
+use Rattle.std.proofs.lemmas.List.{take_all}
+use Rattle.std.proofs.lemmas.Slice.{overwrites}
+use Rattle.sha2.specs.Sha256.{digest_bytes}
+use Rattle.sha2.proofs.Absorbing256.{digest_more}
+use Rattle.std.specs.Int.{w32, to_be_bytes}
+use Rattle.sha256_lanes.specs.Lanes.{value_in}
+use Rattle.sha256_lanes.proofs.FourLanes.{value_word}
+use Rattle.sha256_lanes.proofs.bytes.lane_bytes.Goals as goal
+
+pub words-init : goal.words-init
+unfolding digest_bytes
+words-init c = record { len = refl; written = refl }
+
+pub words-preserved : goal.words-preserved
+words-preserved c = record {
+  len = search (rules, overwrites);
+  written =
+      digest_more c.words.bytes (value_in c.args.j c.args.value.now) c.copy_from_slice.new.self c.words.k _ c.words.invariant.written (omega arith)
+      (c.copy_from_slice.ensures.after ∙ c.to_be_bytes.ensures ∙ ap (to_be_bytes w32) (sym (value_word c.args.value.now c.args.j c.words.k c.words-test.true)));
+}
+
+pub returns : goal.returns
+returns c =
+    let done : c.words.k ≡ 8 = omega arith in
+    sym (take_all 32 c.words.bytes (omega arith)) ∙ rw done at c.words.invariant.written
