@@ -121,22 +121,9 @@ abbrev pub is_built_topology : Topology → Bool
 is_built_topology topo = if list_all is_open topo.routers then list_all is_plain topo.parts else false
 
 -- the run over what a topology text gives; nothing is run where it is refused or not built
-<<<<<<< HEAD
 abbrev pub ran_over : Result Topology RefusedLine → List ℕ → Ran
 ran_over (Ok topo) schedule = if is_built_topology topo then ran topo schedule else record { trace = []; ending = Topology_unbuilt }
 ran_over (Err refused) schedule = record { trace = []; ending = Topology_refused refused.line refused.fault }
-=======
-<<<<<<< HEAD
-abbrev pub ran_over : Result Topology RefusedLine → List ℕ → Ran
-ran_over (Ok topo) schedule = if is_built_topology topo then ran topo schedule else record { trace = []; ending = Unbuilt }
-ran_over (Err refused) schedule = record { trace = []; ending = Topology_refused refused.line refused.fault }
-=======
-abbrev pub ran_over : Result Topology TopoEnd → List ℕ → Ran
-ran_over (Ok topo) schedule = if is_built_topology topo then ran topo schedule else record { trace = []; ending = Topology_unbuilt }
-ran_over (Err (topo_end.Line line f)) schedule = record { trace = []; ending = Topology_refused line f }
-ran_over (Err topo_end.Memory) schedule = record { trace = []; ending = Topology_unbuilt }
->>>>>>> 14e9178b90bdc306d9d92e350e3a138e52af4eba
->>>>>>> bdb8fb632985a04fd73017bcbfc2f942b0744126
 
 -- what ends the text: a refusal line where a line of the schedule is refused
 abbrev pub ending_text : Ending → List ℕ
