@@ -6,7 +6,7 @@ use aip_io::{DirShelf, StdSink};
 use aip_top::{LeaseFault, Status, aip};
 use lease_disk::FileDisk;
 use std::alloc::AllocError;
-use std::fs::Files;
+use std::fs::{File, Files};
 use std::process::ExitCode;
 use std::rt::Env;
 use std::{env, io};
@@ -63,7 +63,7 @@ fn tell(rt: &impl Eprint, status: Status) -> io::Result<()> {
 }
 
 // Obeys the words. The disk and the core that come back aren't needed any more.
-fn obeyed<R: Env + AllocGlobal + Files + Print>(
+fn obeyed<R: Env + AllocGlobal + Files<File = File> + Print>(
     rt: &R,
     words: &[String],
 ) -> Result<Status, AllocError> {

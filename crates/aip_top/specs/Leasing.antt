@@ -7,7 +7,8 @@ use Rattle.lms_core.specs.Tree.{Key, identifier_of}
 use Rattle.lms_core.specs.Parameters.{levels_of}
 use Rattle.lease_disk.specs.Images.{AtEachMoment}
 use Rattle.leaf_lease.specs.LeaseFile.{IsOpen, is_open, kept_id, kept_height, file_size, fresh_file}
-use Rattle.leaf_lease.specs.Kept.{KeepsGone, KeepsByte}
+use Rattle.lease_disk.specs.Kept.{KeepsByte}
+use Rattle.leaf_lease.specs.Kept.{KeepsGone}
 use Rattle.leaf_lease.specs.Format.{formatted, IsFresh}
 use Rattle.aip_topo.specs.declared.topology.Domain.{Domain}
 use Rattle.aip_topo.specs.declared.topology.Key as topo

@@ -5,7 +5,7 @@ ghost use Rattle.hex.specs.Hex.{encode_lower};
 ghost use Rattle.aip_io.specs.Causes.{Rose};
 ghost use Rattle.lms_core.specs.Tree.{Key as MadeKey};
 ghost use Rattle.lease_disk.specs.Images.{OnlyLooks};
-ghost use Rattle.leaf_lease.specs.Kept.{CountsFaults};
+ghost use Rattle.lease_disk.specs.Causes.{HasCause as DiskHasCause};
 ghost use Rattle.leaf_lease.specs.Format.{FormatSays, format_failed, formatted_disk, is_already};
 ghost use Rattle.std.specs.Option.{ForSome};
 ghost use Rattle.aip_topo.specs.declared.topology.Domain.{Domain as NamedDomain};
@@ -129,7 +129,7 @@ fn format_disk<D: Disk>(disk: D, id: [u8; 16], height: u8) -> Result<D, FormatEn
     ensures fresh { OnOk result (HasFresh D.now D.may_leave id height disk (formatted_disk result)) }
     ensures keeps { KeepsOpen D.may_leave D.clock D.during disk (formatted_disk result) }
     ensures moments { Formats D.now D.may_leave D.clock D.during id height disk (formatted_disk result) }
-    ensures cause { CountsFaults (D.faults disk) (D.faults (formatted_disk result)) (format_failed result) }
+    ensures cause { DiskHasCause (D.faults disk) (D.faults (formatted_disk result)) (format_failed result) }
 {
     format(disk, id, height)
 }
