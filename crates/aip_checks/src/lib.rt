@@ -2,7 +2,6 @@
 #![tactic(auto)]
 
 #[cfg(test)]
-mod tests;
-
-#[cfg(test)]
 mod run_tests;
+#[cfg(test)]
+mod tests;

@@ -9,7 +9,8 @@ use std::alloc::{AllocError, Global};
 use std::test::Fail;
 
 // Packets that are repeated, reordered and lost.
-const PACKETS: &[u8] = b"send a b 1 -\nsend a b 2 -\nsend a b 3 -\ndeliver 2\ndeliver 0\ndeliver 0\ndeliver 0\n";
+const PACKETS: &[u8] =
+    b"send a b 1 -\nsend a b 2 -\nsend a b 3 -\ndeliver 2\ndeliver 0\ndeliver 0\ndeliver 0\n";
 
 // Their trace, as an independent implementation gives it.
 const PACKETS_TRACE: &[u8] =
@@ -81,8 +82,12 @@ fn the_core_of_a_run_comes_back(rt: HostRuntime) -> Result<(), Fail> {
 
 #[test]
 fn the_core_comes_back_from_a_refused_line(rt: HostRuntime) -> Result<(), Fail> {
-    let (status, core, _) =
-        run_in(rt.alloc(), b"tick 1\ndeliver 99\n", in_pieces(64, 0), in_pieces(4096, 0))?;
+    let (status, core, _) = run_in(
+        rt.alloc(),
+        b"tick 1\ndeliver 99\n",
+        in_pieces(64, 0),
+        in_pieces(4096, 0),
+    )?;
     let line = 2;
     let fault = StepFault::NoFlight;
     assert_eq!(rt; status, Status::Schedule { line, fault });
