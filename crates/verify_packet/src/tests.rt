@@ -1,5 +1,5 @@
 //! Challenges and responses of a network that two other implementations ran, and each refusal in its turn.
-ghost use Rattle.std.specs.Prelude.{◌≡◌, length};
+ghost use Rattle.std.specs.Prelude.{◌<◌};
 
 use super::*;
 use aip_addr::{Address, Bytes, Id};
@@ -44,7 +44,9 @@ fn address(eid: [u8; 20]) -> Address {
     }
 }
 
-fn router() -> RouterKey {
+fn router() -> RouterKey
+    ensures { 0 < result.epoch_length }
+{
     RouterKey {
         address: address(
             *b"\x00\xc6\xdc\xb4\xc7\x7c\xf2\x00\xec\xbb\x25\x2a\x5f\x85\x0e\x01\x2c\xc5\xa5\x00",
@@ -101,14 +103,18 @@ fn altered(alloc: Global, frame: &[u8], place: usize, bytes: &[u8]) -> Result<Ve
     Ok(other)
 }
 
+// The challenge that the router puts at the last tick of its first epoch.
+fn challenge_at_59(hash: &[u8; 32]) -> [u8; 154] {
+    challenge(&router(), 59, &host_a(), hash, 0)
+}
+
 #[test]
 fn a_challenge_is_made_and_read(rt: HostRuntime) {
-    let asks = router();
     let mut hash = [0; 32];
     hash.copy_from_slice(&CHALLENGE[80..112]);
-    let body = challenge(&asks, 59, &host_a(), &hash, 0);
+    let body = challenge_at_59(&hash);
     assert!(rt; body == CHALLENGE);
-    assert!(rt; asked_router(&body) == asks.address);
+    assert!(rt; asked_router(&body) == router().address);
     assert!(rt; asked_source(&body) == host_a());
     assert!(rt; asked_hash(&body) == hash);
 }
