@@ -1,0 +1,5 @@
+pub mod Body
+pub mod FilterFile
+pub mod Format
+pub mod Judged
+pub mod Slots
