@@ -1,5 +1,5 @@
 -- When a shut-off is obeyed.
-use Rattle.std.specs.Prelude.{ℕ, ◌+◌, Bool, not, if◌then◌else◌, nat_lt, nat_le, List, length}
+use Rattle.std.specs.Prelude.{ℕ, ◌+◌, not, if◌then◌else◌, nat_lt, nat_le, List, length}
 use Rattle.aip_addr.specs.Ids.{is_owner, key_id_of}
 use Rattle.aip_addr.specs.declared.ids.Address.{Address}
 use Rattle.aip_frame.specs.declared.frame.Frame.{Frame}

@@ -1,7 +1,9 @@
 // How a filter file is laid out.
-ghost use Rattle.std.specs.Prelude.{◌≡◌, ◌≤◌, length};
-ghost use Rattle.shutoff_filter.specs.FilterFile.{file_size, kept_room};
+ghost use Rattle.std.specs.Prelude.{◌≡◌, ◌≤◌, length, take};
+ghost use Rattle.shutoff_filter.specs.FilterFile.{file_size, kept_room, slot_of};
 
+use crate::slots::Slot;
+use aip_addr::KeyId;
 use byteorder::{BigEndian, ByteOrder};
 
 /// The gate of a file or a slot that is open.
@@ -31,4 +33,25 @@ pub fn room_in(bytes: &[u8]) -> u16
     ensures { result ≡ kept_room bytes.now }
 {
     BigEndian::read_u16(&bytes[1..])
+}
+
+fn key_id_at(body: &[u8]) -> KeyId
+    requires { length body.now ≡ 27 }
+    ensures { result.bytes ≡ take 19 body.now }
+{
+    let mut bytes = [0; 19];
+    bytes.copy_from_slice(&body[..19]);
+    KeyId { bytes }
+}
+
+/// The slot of a gate and the 27 bytes past it.
+pub fn slot_of(gate: u8, body: &[u8]) -> Slot
+    requires { length body.now ≡ 27 }
+    ensures { result ≡ slot_of gate body.now }
+{
+    Slot {
+        is_open: gate == OPEN,
+        to: key_id_at(body),
+        until: BigEndian::read_u64(&body[19..]),
+    }
 }

@@ -4,8 +4,8 @@
 //! it before. A filter has room for some key identifiers in force, and one slot more than that.
 //!
 //! ```text
-//! let slots = Slots::new(alloc, 8)?;
-//! if let Heard::Obeyed { until } = judge(&slots, &log, frame, now) {
+//! let store = FilterStore::open(format_store(disk, 8)?, Slots::new(alloc, 8)?)?;
+//! if let Heard::Obeyed { until } = store.judge(&log, frame, now) {
 //!     // The sender of the frame is in force until then.
 //! }
 //! ```
@@ -13,15 +13,20 @@
 
 mod bodies;
 mod formatting;
+mod judgement;
 mod judging;
 mod layout;
+mod opening;
 mod slots;
+mod store;
 
 pub use aip_addr::Memory;
 pub use bodies::{shutoff_body, shutoff_text};
 pub use formatting::{StoreFormatEnd, format_store};
-pub use judging::{Heard, judge};
+pub use judging::Heard;
+pub use opening::StoreEnd;
 pub use slots::Slots;
+pub use store::FilterStore;
 
 #[cfg(test)]
 mod tests;

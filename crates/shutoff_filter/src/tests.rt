@@ -1,5 +1,6 @@
 //! Shut-offs of a network that two other implementations ran, and each refusal in its turn.
 use super::*;
+use crate::judging::judge;
 use crate::slots::Slot;
 use aip_addr::{Address, Id};
 use aip_frame::{Frame, Kind, encode, is_frame, kind_of};

@@ -1,4 +1,4 @@
-use Rattle.std.proofs.Common.{◌≡◌, ◌∙◌, ℕ, List, ap}
+use Rattle.std.proofs.Common.{◌∙◌, ℕ, List, ap}
 use Rattle.std.proofs.lemmas.List.{take_rest}
 use Rattle.shutoff_filter.specs.Body.{signature_in}
 use Rattle.shutoff_filter.specs.Judged.{order_verdict}
