@@ -1,0 +1,4 @@
+mod Fresh
+mod Places
+mod Shown
+mod Verdicts

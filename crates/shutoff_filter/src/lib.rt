@@ -1,0 +1,32 @@
+//! Shut-offs: how a receiver tells a source to be silent, and when the source obeys.
+//!
+//! A host that has obeyed a shut-off keeps the key identifier of its sender in a filter until a tick, and sends nothing to
+//! it before. A filter has room for some key identifiers in force, and one slot more than that.
+//!
+//! ```text
+//! let store = FilterStore::open(format_store(disk, 8)?, Slots::new(alloc, 8)?)?;
+//! if let Heard::Obeyed { until } = store.judge(&log, frame, now) {
+//!     // The sender of the frame is in force until then.
+//! }
+//! ```
+#![tactic(auto)]
+
+mod bodies;
+mod formatting;
+mod judgement;
+mod judging;
+mod layout;
+mod opening;
+mod slots;
+mod store;
+
+pub use aip_addr::Memory;
+pub use bodies::{shutoff_body, shutoff_text};
+pub use formatting::{StoreFormatEnd, format_store};
+pub use judging::Heard;
+pub use opening::StoreEnd;
+pub use slots::Slots;
+pub use store::FilterStore;
+
+#[cfg(test)]
+mod tests;
