@@ -1,5 +1,3 @@
-use aip_core::{Core, StepEnd};
-use aip_event::{Input, read_input};
 use aip_io::{File, MemShelf, MemSink};
 use aip_rules::StepFault;
 use aip_top::{LeaseFault, Status, aip};
@@ -273,36 +271,4 @@ fn each_call_of_the_disk_fails_in_turn(rt: HostRuntime) -> Result<(), Fail> {
     assert!(rt; sink.taken().is_empty());
     assert!(rt; disk.bytes().starts_with(&LEASE_HEAD));
     Ok(())
-}
-
-#[test]
-fn a_step_moves_the_time_and_a_refused_one_does_not(rt: HostRuntime) -> Result<(), Fail> {
-    let alloc = rt.alloc();
-    let Ok(topology) = aip_topo::read(alloc, TOPOLOGY) else {
-        return Err("a topology".into());
-    };
-    let core = Core::new(alloc, topology)?;
-    let Ok((core, events)) = core.step(alloc, Input::Tick { ticks: 5 }) else {
-        return Err("a step".into());
-    };
-    assert!(rt; events.as_slice().is_empty());
-    assert_eq!(rt; core.now(), 5);
-    assert_eq!(rt; core.flights(), 0);
-    let Some(send) = read_input(alloc, b"send a b 1 -")? else {
-        return Err("an input".into());
-    };
-    let Ok((core, events)) = core.step(alloc, send) else {
-        return Err("a step".into());
-    };
-    assert_eq!(rt; events.as_slice().len(), 1);
-    assert_eq!(rt; core.flights(), 1);
-    match core.step(alloc, Input::Deliver { flight: 1 }) {
-        Err(StepEnd::Refused { core, fault }) => {
-            assert_eq!(rt; fault, StepFault::NoFlight);
-            assert_eq!(rt; core.now(), 5);
-            assert_eq!(rt; core.flights(), 1);
-            Ok(())
-        }
-        _ => Err("a refusal".into()),
-    }
 }
