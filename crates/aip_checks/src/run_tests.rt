@@ -84,6 +84,25 @@ fn the_core_of_a_run_comes_back(rt: HostRuntime) -> Result<(), Fail> {
 fn the_core_comes_back_from_a_refused_line(rt: HostRuntime) -> Result<(), Fail> {
     let (status, core, _) = run_in(
         rt.alloc(),
+        b"tick 1\ndeliver 99\n",
+        in_pieces(64, 0),
+        in_pieces(4096, 0),
+    )?;
+    let line = 2;
+    let fault = StepFault::NoFlight;
+    assert_eq!(rt; status, Status::Schedule { line, fault });
+    let Some(core) = core else {
+        return Err("a core".into());
+    };
+    assert_eq!(rt; core.flights(), 0);
+    assert_eq!(rt; core.now(), 1);
+    Ok(())
+}
+
+#[test]
+fn time_and_flights_stay_when_a_line_is_refused(rt: HostRuntime) -> Result<(), Fail> {
+    let (status, core, _) = run_in(
+        rt.alloc(),
         b"tick 5\nsend a b 1 -\ndeliver 1\n",
         in_pieces(64, 0),
         in_pieces(4096, 0),
