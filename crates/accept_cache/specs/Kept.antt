@@ -22,6 +22,7 @@ pub record HasRoom (limits : Limits) : Type 0 where
   pub accept : 0 < limits.accept
   pub wild : 0 < limits.wild
 
+-- a router that has accepted nothing yet
 abbrev pub nothing_kept : Limits → Kept
 nothing_kept limits = record { sources = []; wildcards = []; limits = limits }
 

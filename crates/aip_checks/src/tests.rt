@@ -11,10 +11,10 @@ const TOPOLOGY: &[u8] =
     b"domain d id 0111111111111111111111111111111111111100\nrouter r d open 0000000000000000000000000000000000000000000000000000000000000000\nhost a r plain id 01aaaaaaaaaaaaaaaaaaaaaaaaaaaaaaaaaaaa00\nhost b r plain id 01bbbbbbbbbbbbbbbbbbbbbbbbbbbbbbbbbbbb00\n";
 
 // One packet from a to b.
-pub const SCHEDULE: &[u8] = b"send a b 7 6869\ndeliver 0\ndeliver 1\n";
+pub(crate) const SCHEDULE: &[u8] = b"send a b 7 6869\ndeliver 0\ndeliver 1\n";
 
 // Its trace, as an independent implementation gives it.
-pub const TRACE: &[u8] =
+pub(crate) const TRACE: &[u8] =
     b"> send a b 7 6869\n< put 0 r/0 0100400000000007011111111111111111111111111111111111110001bbbbbbbbbbbbbbbbbbbbbbbbbbbbbbbbbbbb00011111111111111111111111111111111111110001aaaaaaaaaaaaaaaaaaaaaaaaaaaaaaaaaaaa0000026869\n> deliver 0\n< forward r 0 1 open\n< put 1 b 01003f0000000007011111111111111111111111111111111111110001bbbbbbbbbbbbbbbbbbbbbbbbbbbbbbbbbbbb00011111111111111111111111111111111111110001aaaaaaaaaaaaaaaaaaaaaaaaaaaaaaaaaaaa0000026869\n> deliver 1\n< got b 7\n";
 
 fn file(alloc: Global, name: &str, bytes: &[u8]) -> Result<File, AllocError> {
@@ -24,14 +24,14 @@ fn file(alloc: Global, name: &str, bytes: &[u8]) -> Result<File, AllocError> {
     })
 }
 
-pub fn files(alloc: Global, schedule: &[u8]) -> Result<Vec<File>, AllocError> {
+pub(crate) fn files(alloc: Global, schedule: &[u8]) -> Result<Vec<File>, AllocError> {
     let mut files = Vec::new(alloc);
     files.push(file(alloc, "topo.txt", TOPOLOGY)?)?;
     files.push(file(alloc, "sched.txt", schedule)?)?;
     Ok(files)
 }
 
-pub fn words(alloc: Global, line: &[&str]) -> Result<Vec<String>, AllocError> {
+pub(crate) fn words(alloc: Global, line: &[&str]) -> Result<Vec<String>, AllocError> {
     let mut words = Vec::new(alloc);
     for word in line {
         words.push(String::from_str(alloc, word)?)?;
@@ -40,12 +40,12 @@ pub fn words(alloc: Global, line: &[&str]) -> Result<Vec<String>, AllocError> {
 }
 
 // A disk of which the call of this number fails.
-pub fn disk(alloc: Global, call: u64) -> Result<MemDisk, AllocError> {
+pub(crate) fn disk(alloc: Global, call: u64) -> Result<MemDisk, AllocError> {
     MemDisk::new(alloc, 100, one(alloc, call)?)
 }
 
 // A list of one number, or of none where it is 0.
-pub fn one(alloc: Global, number: u64) -> Result<Vec<u64>, AllocError> {
+pub(crate) fn one(alloc: Global, number: u64) -> Result<Vec<u64>, AllocError> {
     let mut numbers = Vec::new(alloc);
     if number > 0 {
         numbers.push(number)?;

@@ -78,27 +78,31 @@ OfLease (Some (Run files)) holds = ⊤
 OfLease (Some (Address topology)) holds = ⊤
 OfLease (Some (Lease leased)) holds = holds leased
 
--- the words spell a run, a lease, any command, or none; and a test that nothing meets
+-- the words spell a run
 abbrev pub is_run : Option Command → Bool
 is_run None = false
 is_run (Some (Run files)) = true
 is_run (Some (Address topology)) = false
 is_run (Some (Lease leased)) = false
 
+-- the words spell a lease
 abbrev pub is_lease : Option Command → Bool
 is_lease None = false
 is_lease (Some (Run files)) = false
 is_lease (Some (Address topology)) = false
 is_lease (Some (Lease leased)) = true
 
+-- the words spell a command
 abbrev pub is_any_command : Option Command → Bool
 is_any_command None = false
 is_any_command (Some command) = true
 
+-- the words spell no command
 abbrev pub is_no_command : Option Command → Bool
 is_no_command None = true
 is_no_command (Some command) = false
 
+-- no words meet this
 abbrev pub is_never : Option Command → Bool
 is_never command = false
 
