@@ -4,7 +4,7 @@ use Rattle.std.specs.Prelude.{All}
 use Rattle.std.proofs.lemmas.List.Elements.{All-cons, All-head, All-tail}
 use Rattle.domain_routes.specs.declared.Edge.{Edge}
 use Rattle.domain_routes.specs.Walks.{JoinsRouters, IsSound}
-use Rattle.aip_core.specs.Machine.{with_link}
+use Rattle.aip_core.specs.Moves.{with_link}
 
 -- a link with its test changed
 abbrev pub relinked_edge : Edge → Bool → Edge

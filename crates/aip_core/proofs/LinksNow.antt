@@ -12,7 +12,7 @@ use Rattle.aip_rules.specs.declared.Entry.TheVariants.{Taken}
 use Rattle.aip_rules.specs.State.{is_up}
 use Rattle.aip_rules.specs.Nodes.{links_after, links_of, ports_in}
 use Rattle.aip_rules.specs.Routes.{links_by, links_now}
-use Rattle.aip_core.specs.Machine.{with_link, links_with}
+use Rattle.aip_core.specs.Moves.{with_link, links_with}
 
 -- an edge with its test
 abbrev pub tested : Edge → Bool → Edge

@@ -1,5 +1,7 @@
 pub mod Kept
 pub mod Machine
+pub mod Moves
+pub mod Starting
 pub mod StandsFor
 pub mod Answers
 pub mod Places
@@ -7,3 +9,5 @@ pub mod Directory
 pub mod Wiring
 pub mod Routes
 pub mod Rooms
+pub mod RouterMachine
+pub mod RouterStands

@@ -1,171 +1,169 @@
 -- What a core makes of an input, as functions of what it keeps. Nothing above this crate reads them.
-use Rattle.std.specs.Prelude.{◌≡◌, ℕ, ◌+◌, ◌^◌, ◌<◌, ◌||◌, ⊤, Bool, true, false, if◌then◌else◌, nat_lt, nat_le, zero, suc, List, [], ◌∷◌, ◌++◌, length, slice_get, Option, Some, None, Result, Ok, Err}
+use Rattle.std.specs.Prelude.{◌≡◌, ℕ, ◌^◌, ◌==◌, ◌||◌, Bool, true, false, if◌then◌else◌, nat_lt, nat_le, List, length, map, position, slice_get, option_and_then, Option, Some, None, Result, Ok, Err}
+use Rattle.std.specs.Str.{bytes_eq}
 use Rattle.aip_addr.specs.declared.ids.Address.{Address}
 use Rattle.aip_frame.specs.declared.frame.Frame.{Frame}
-use Rattle.aip_frame.specs.declared.frame.Kind.{Kind}
-use Rattle.aip_frame.specs.declared.frame.Kind.TheVariants.{Data, Challenge, Response, ShutOff}
-use Rattle.aip_frame.specs.Frame.{frame_bytes, frame_of, most_body}
-use Rattle.aip_event.specs.declared.event.Event.{Event}
-use Rattle.aip_event.specs.declared.event.Event.TheVariants.{Got}
-use Rattle.aip_event.specs.declared.event.Cause.TheVariants.{Open}
-use Rattle.aip_event.specs.declared.event.Reason.TheVariants as reason
+use Rattle.aip_frame.specs.Frame.{frame_bytes, most_body}
 use Rattle.aip_event.specs.declared.input.Input.{Input}
 use Rattle.aip_event.specs.declared.input.Input.TheVariants.{Tick, Send, Raw, Deliver, Inject, Cut, Mend, Shutoff, Restart, Stop, Halt, Publish}
 use Rattle.aip_event.specs.declared.input.Target.{Target}
 use Rattle.aip_event.specs.declared.input.Target.TheVariants as target
-use Rattle.aip_topo.specs.declared.topology.Router.{Router}
 use Rattle.aip_topo.specs.declared.topology.Topology.{Topology}
-use Rattle.domain_routes.specs.declared.Edge.{Edge}
+use Rattle.lms_core.specs.Tree.{Key}
 use Rattle.aip_rules.specs.declared.Flight.{Flight}
 use Rattle.aip_rules.specs.declared.Reaction.{Reaction}
 use Rattle.aip_rules.specs.declared.Seat.{Seat}
 use Rattle.aip_rules.specs.declared.StepFault.{StepFault}
 use Rattle.aip_rules.specs.declared.StepFault.TheVariants as fault
-use Rattle.aip_rules.specs.State.{ticks_of}
-use Rattle.aip_rules.specs.Nodes.{seats_of, seat_named, router_named, address_named, links_of, is_same_address, name_at}
-use Rattle.aip_rules.specs.Routes.{port_over}
-use Rattle.aip_rules.specs.Reaction.{nothing, dropped, happens, puts, numbered, in_put}
-use Rattle.aip_rules.specs.Router.{Arrival, forwarded}
-use Rattle.aip_rules.specs.Host.{sent_frame}
-use Rattle.aip_rules.specs.Step.{most_inputs, refused_if, ticked}
+use Rattle.aip_rules.specs.State.{frame_in}
+use Rattle.aip_rules.specs.Nodes.{seats_of, router_named, address_named}
+use Rattle.aip_rules.specs.Reaction.{nothing, puts}
+use Rattle.aip_rules.specs.Host.{at_host, back_up, put_by, sent_frame, shut_by}
+use Rattle.aip_rules.specs.Step.{can_be_put, has_key, injected, most_inputs, published, refused_if, ticked}
+use Rattle.domain_routes.specs.declared.Edge.{Edge}
+use Rattle.aip_host.specs.HostState.{HostState, key_in, standing_of}
 use Rattle.aip_core.specs.Kept.{Kept}
+use Rattle.aip_core.specs.RouterMachine.{RouterState, kept_at_place}
 
--- a frame that a router passes on, towards a port or none
-abbrev pub passed_on : Topology → Arrival → Frame → Option ℕ → Reaction
-passed_on topo at frame None = dropped at.self.name reason.NoRoute
-passed_on topo at frame (Some out) = forwarded topo at out Open frame
+-- the place of the host of this name
+abbrev pub seat_place : List Seat → List ℕ → Option ℕ
+seat_place seats name = position (λ seat. bytes_eq seat.name name) seats
 
--- a frame at a router, over these links
-abbrev pub frame_over : Topology → List Edge → Arrival → Frame → Reaction
-frame_over topo links at frame =
-    if is_same_address at.self.address frame.to then dropped at.self.name reason.Mine else
-    if nat_le frame.hop 1 then dropped at.self.name reason.Hops else
-    passed_on topo at frame (port_over topo links at.place at.self frame.to)
+-- what is kept of the host of this name
+abbrev pub host_of : Kept → List ℕ → Option HostState
+host_of kept name = option_and_then (λ place. slice_get kept.hosts place) (seat_place (seats_of kept.topo) name)
 
--- a frame, or bytes that are none, at a router
-abbrev pub taken_over : Topology → List Edge → Arrival → Option Frame → Reaction
-taken_over topo links at None = dropped at.self.name reason.Bad
-taken_over topo links at (Some frame) = frame_over topo links at frame
+-- each host stands at its seat
+abbrev pub AreSeated : Topology → List HostState → Type 0
+AreSeated topo hosts = map (λ host. host.seat) hosts ≡ seats_of topo
 
--- bytes at a port of the router at this place, if there is one
-abbrev pub router_over : Topology → List Edge → ℕ → Option Router → ℕ → List ℕ → Reaction
-router_over topo links place None port bytes = nothing
-router_over topo links place (Some self) port bytes =
-    taken_over topo links (record { place = place; self = self; port = port }) (frame_of bytes)
-
--- bytes at a port of a router, if there is one of this name
-abbrev pub port_reached : Topology → List Edge → Option ℕ → ℕ → List ℕ → Reaction
-port_reached topo links None port bytes = nothing
-port_reached topo links (Some place) port bytes = router_over topo links place (slice_get topo.routers place) port bytes
-
--- a frame of this kind at the host that it is for
-abbrev pub kind_reached : Seat → Frame → Kind → Reaction
-kind_reached seat frame Data = happens (Got seat.name frame.packet)
-kind_reached seat frame Challenge = dropped seat.name reason.Mute
-kind_reached seat frame Response = dropped seat.name reason.Kind
-kind_reached seat frame ShutOff = dropped seat.name reason.Unguarded
-
--- a frame, or bytes that are none, at a host
-abbrev pub seat_reached : Seat → Option Frame → Reaction
-seat_reached seat None = dropped seat.name reason.Bad
-seat_reached seat (Some frame) =
-    if is_same_address seat.address frame.to then kind_reached seat frame frame.kind else dropped seat.name reason.Stray
-
--- bytes at a host, if there is one of this name
-abbrev pub host_reached : Option Seat → List ℕ → Reaction
-host_reached None bytes = nothing
-host_reached (Some seat) bytes = seat_reached seat (frame_of bytes)
-
--- bytes at a target
-abbrev pub reached : Topology → List Edge → Target → List ℕ → Reaction
-reached topo links (target.Port name port) bytes = port_reached topo links (router_named topo.routers name) port bytes
-reached topo links (target.Host name) bytes = host_reached (seat_named (seats_of topo) name) bytes
-
--- a flight that is delivered, if it was put
-abbrev pub kept_delivered : Kept → Option Flight → Result Reaction StepFault
-kept_delivered kept None = Err fault.NoFlight
-kept_delivered kept (Some flight) = Ok (reached kept.topo kept.links flight.target flight.bytes)
-
--- what a host hands down, towards its port of its router
-abbrev pub hands_down : Topology → Seat → List ℕ → Reaction
-hands_down topo seat bytes = puts (target.Port (name_at topo.routers seat.router) seat.port) bytes
+-- ---- at a host
 
 -- a data frame that a host sends
-abbrev pub kept_sent : Topology → Option Seat → Option Address → ℕ → List ℕ → Result Reaction StepFault
-kept_sent topo None to packet body = Err fault.Unknown
-kept_sent topo (Some seat) None packet body = Err fault.Unknown
-kept_sent topo (Some seat) (Some to) packet body =
+abbrev pub kept_sent : ℕ → HostState → Option Address → ℕ → List ℕ → Result Reaction StepFault
+kept_sent now host None packet body = Err fault.Unknown
+kept_sent now host (Some to) packet body =
     refused_if (nat_le (2 ^ 32) packet || nat_lt most_body (length body)) fault.Range
-    (Ok (hands_down topo seat (frame_bytes (sent_frame to seat.address packet body))))
+    (Ok (put_by (standing_of host now) (frame_bytes (sent_frame to host.seat.address packet body))))
+
+-- bytes that a host puts as they are
+abbrev pub kept_raw : ℕ → HostState → List ℕ → Result Reaction StepFault
+kept_raw now host bytes = if can_be_put (length bytes) then Ok (put_by (standing_of host now) bytes) else Err fault.Range
+
+-- a flight at the host that it is for, if it was put
+abbrev pub kept_heard : ℕ → HostState → Option Flight → Result Reaction StepFault
+kept_heard now host None = Err fault.NoFlight
+kept_heard now host (Some flight) = Ok (at_host (standing_of host now) flight.bytes)
+
+-- a shut-off that a host signs, if it has a key
+abbrev pub kept_shut_with : ℕ → HostState → Frame → ℕ → Option Key → Result Reaction StepFault
+kept_shut_with now host named ttl None = Err fault.Keyless
+kept_shut_with now host named ttl (Some key) = Ok (shut_by (standing_of host now) key named ttl)
+
+-- a shut-off of a frame, if there is one
+abbrev pub kept_shut_named : ℕ → HostState → Option Frame → ℕ → Result Reaction StepFault
+kept_shut_named now host None ttl = Err fault.NoFlight
+kept_shut_named now host (Some named) ttl = refused_if (nat_le (2 ^ 32) ttl) fault.Range (kept_shut_with now host named ttl (key_in host.key))
+
+-- a stop of a host's signing that is armed
+abbrev pub kept_stop : HostState → ℕ → ℕ → Result Reaction StepFault
+kept_stop host call byte =
+    refused_if ((call == 0) || (nat_lt 2 call || nat_le 256 byte)) fault.Range
+    (if has_key (key_in host.key) then Ok nothing else Err fault.Keyless)
+
+-- a halt of a host's filter that is armed
+abbrev pub kept_halt : ℕ → ℕ → Result Reaction StepFault
+kept_halt call byte = refused_if ((call == 0) || (nat_lt 4 call || nat_le 256 byte)) fault.Range (Ok nothing)
+
+-- the input lets a host act, stops, halts or restarts one, if it names one
+abbrev pub is_at_host : Input → Bool
+is_at_host (Send name node packet body) = true
+is_at_host (Raw name bytes) = true
+is_at_host (Deliver flight) = true
+is_at_host (Shutoff name flight ttl) = true
+is_at_host (Restart node) = true
+is_at_host (Stop name call byte) = true
+is_at_host (Halt name call byte) = true
+is_at_host (Tick ticks) = false
+is_at_host (Inject to bytes) = false
+is_at_host (Cut link) = false
+is_at_host (Mend link) = false
+is_at_host (Publish bytes) = false
+
+-- what comes of an input at the host that it lets act, stops, halts or restarts
+abbrev pub host_outcome : Topology → List Flight → ℕ → HostState → Input → Result Reaction StepFault
+host_outcome topo flights now host (Send name node packet body) = kept_sent now host (address_named topo node) packet body
+host_outcome topo flights now host (Raw name bytes) = kept_raw now host bytes
+host_outcome topo flights now host (Deliver flight) = kept_heard now host (slice_get flights flight)
+host_outcome topo flights now host (Shutoff name flight ttl) = kept_shut_named now host (frame_in (slice_get flights flight)) ttl
+host_outcome topo flights now host (Restart node) = Ok (back_up (standing_of host now))
+host_outcome topo flights now host (Stop name call byte) = kept_stop host call byte
+host_outcome topo flights now host (Halt name call byte) = kept_halt call byte
+host_outcome topo flights now host (Tick ticks) = Ok nothing
+host_outcome topo flights now host (Inject to bytes) = Ok nothing
+host_outcome topo flights now host (Cut link) = Ok nothing
+host_outcome topo flights now host (Mend link) = Ok nothing
+host_outcome topo flights now host (Publish bytes) = Ok nothing
+
+-- what comes of an input at a host, or else this
+abbrev pub at_host_or : Result Reaction StepFault → Kept → Input → Option HostState → Result Reaction StepFault
+at_host_or other kept input None = other
+at_host_or other kept input (Some host) = host_outcome kept.topo kept.flights kept.ticks host input
+
+-- ---- at a router
+
+-- bytes at a port of the router at a place that keeps this
+abbrev pub router_reached : Kept → ℕ → ℕ → List ℕ → Option RouterState → Reaction
+router_reached kept place port bytes None = nothing
+router_reached kept place port bytes (Some state) =
+    kept_at_place kept.topo kept.links state kept.ticks place (slice_get kept.topo.routers place) port bytes
+
+-- bytes at a port of a router, if there is one at a place
+abbrev pub port_reached : Kept → Option ℕ → ℕ → List ℕ → Reaction
+port_reached kept None port bytes = nothing
+port_reached kept (Some place) port bytes = router_reached kept place port bytes (slice_get kept.routers place)
+
+-- ---- the whole
+
+-- a flight that is delivered, towards its target
+abbrev pub target_reached : Kept → Input → Target → List ℕ → Result Reaction StepFault
+target_reached kept input (target.Port name port) bytes = Ok (port_reached kept (router_named kept.topo.routers name) port bytes)
+target_reached kept input (target.Host name) bytes = at_host_or (Ok nothing) kept input (host_of kept name)
+
+-- a flight that is delivered, if it was put
+abbrev pub kept_delivered : Kept → Input → Option Flight → Result Reaction StepFault
+kept_delivered kept input None = Err fault.NoFlight
+kept_delivered kept input (Some flight) = target_reached kept input flight.target flight.bytes
+
+-- bytes that come from outside towards a target, unless something hinders them
+abbrev pub unless_hindered : Option StepFault → Target → List ℕ → Result Reaction StepFault
+unless_hindered (Some f) to bytes = Err f
+unless_hindered None to bytes = if can_be_put (length bytes) then Ok (puts to bytes) else Err fault.Range
 
 -- a link that is cut or mended
 abbrev pub kept_relinked : List Edge → ℕ → Result Reaction StepFault
 kept_relinked links link = if nat_lt link (length links) then Ok nothing else Err fault.Range
 
--- what comes of an input, where one more may be taken; an input that isn't built is never taken
+-- a router that starts anew, if there is one
+abbrev pub router_restarted : Option ℕ → Result Reaction StepFault
+router_restarted None = Err fault.Unknown
+router_restarted (Some place) = Ok nothing
+
+-- what comes of an input, where one more may be taken
 abbrev pub kept_outcome : Kept → Input → Result Reaction StepFault
 kept_outcome kept (Tick ticks) = ticked kept.ticks ticks
-kept_outcome kept (Send host node packet body) =
-    kept_sent kept.topo (seat_named (seats_of kept.topo) host) (address_named kept.topo node) packet body
-kept_outcome kept (Deliver flight) = kept_delivered kept (slice_get kept.flights flight)
+kept_outcome kept (Send host node packet body) = at_host_or (Err fault.Unknown) kept (Send host node packet body) (host_of kept host)
+kept_outcome kept (Raw host bytes) = at_host_or (Err fault.Unknown) kept (Raw host bytes) (host_of kept host)
+kept_outcome kept (Deliver flight) = kept_delivered kept (Deliver flight) (slice_get kept.flights flight)
+kept_outcome kept (Inject to bytes) = injected kept.topo to bytes
 kept_outcome kept (Cut link) = kept_relinked kept.links link
 kept_outcome kept (Mend link) = kept_relinked kept.links link
-kept_outcome kept (Raw host bytes) = Ok nothing
-kept_outcome kept (Inject to bytes) = Ok nothing
-kept_outcome kept (Shutoff host flight ttl) = Ok nothing
-kept_outcome kept (Restart node) = Ok nothing
-kept_outcome kept (Stop host call byte) = Ok nothing
-kept_outcome kept (Halt host call byte) = Ok nothing
-kept_outcome kept (Publish bytes) = Ok nothing
+kept_outcome kept (Shutoff host flight ttl) = at_host_or (Err fault.Unknown) kept (Shutoff host flight ttl) (host_of kept host)
+kept_outcome kept (Restart node) = at_host_or (router_restarted (router_named kept.topo.routers node)) kept (Restart node) (host_of kept node)
+kept_outcome kept (Stop host call byte) = at_host_or (Err fault.Unknown) kept (Stop host call byte) (host_of kept host)
+kept_outcome kept (Halt host call byte) = at_host_or (Err fault.Unknown) kept (Halt host call byte) (host_of kept host)
+kept_outcome kept (Publish bytes) = published bytes
 
 -- what comes of an input
 abbrev pub kept_reaction : Kept → Input → Result Reaction StepFault
 kept_reaction kept input = refused_if (nat_le most_inputs kept.inputs) fault.Many (kept_outcome kept input)
-
--- the links with link l up or cut
-abbrev pub with_link : List Edge → ℕ → Bool → List Edge
-with_link [] l up = []
-with_link (e ∷ es) zero up = record e { up = up } ∷ es
-with_link (e ∷ es) (suc l) up = e ∷ with_link es l up
-
--- the links with the one that an input cuts or mends
-abbrev pub links_with : Input → List Edge → List Edge
-links_with (Cut link) links = with_link links link false
-links_with (Mend link) links = with_link links link true
-links_with _ links = links
-
--- what is kept once an input was taken and its reaction came
-abbrev pub kept_after : Kept → Input → Reaction → Kept
-kept_after kept input reaction =
-    record {
-      topo = kept.topo;
-      links = links_with input kept.links;
-      flights = kept.flights ++ in_put reaction.put;
-      ticks = kept.ticks + ticks_of input;
-      inputs = kept.inputs + 1;
-    }
-
--- the events of a step: those of its reaction, in which a flight has the next number
-abbrev pub kept_events : Kept → Result Reaction StepFault → Result (List Event) StepFault
-kept_events kept (Ok reaction) = Ok (numbered (length kept.flights) reaction)
-kept_events kept (Err f) = Err f
-
--- what is kept after a step; after a refusal it is as before
-abbrev pub kept_next : Kept → Input → Result Reaction StepFault → Kept
-kept_next kept input (Ok reaction) = kept_after kept input reaction
-kept_next kept input (Err f) = kept
-
--- these are the events of a step, and this is what is kept after it
-pub record IsKeptStep (kept : Kept) (input : Input) (next : Kept) (told : List Event) : Type 0 where
-  pub events : kept_events kept (kept_reaction kept input) ≡ Ok told
-  pub after : next ≡ kept_next kept input (kept_reaction kept input)
-
--- the link that an input cuts or mends is one of the first n
-abbrev pub LinkIsThere : ℕ → Input → Type 0
-LinkIsThere n (Cut link) = link < n
-LinkIsThere n (Mend link) = link < n
-LinkIsThere n _ = ⊤
-
--- what is kept before any input
-abbrev pub kept_at_start : Topology → Kept
-kept_at_start topo = record { topo = topo; links = links_of topo; flights = []; ticks = 0; inputs = 0 }

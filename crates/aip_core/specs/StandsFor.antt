@@ -1,23 +1,34 @@
 -- The trace that a core stands for.
-use Rattle.std.specs.Prelude.{◌≡◌, ℕ, false, List, Ok}
+use Rattle.std.specs.Prelude.{◌≡◌, ℕ, List, length, slice_get, Ok, Some}
 use Rattle.aip_event.specs.declared.event.Event.{Event}
 use Rattle.aip_event.specs.declared.input.Input.{Input}
 use Rattle.aip_topo.specs.declared.topology.Topology.{Topology}
 use Rattle.aip_rules.specs.declared.Entry.{Entry}
-use Rattle.aip_rules.specs.State.{now_of, input_count, flights_of, is_down}
+use Rattle.aip_rules.specs.declared.Seat.{Seat}
+use Rattle.aip_rules.specs.State.{now_of, input_count, flights_of}
+use Rattle.aip_rules.specs.Nodes.{seats_of}
 use Rattle.aip_rules.specs.Routes.{links_now}
 use Rattle.aip_rules.specs.Step.{step_of, after_step}
+use Rattle.aip_host.specs.HostState.{HostState}
+use Rattle.aip_host.specs.StandsFor.{StandsFor as HostStands}
 use Rattle.aip_core.specs.Kept.{Kept}
+use Rattle.aip_core.specs.RouterStands.{RoutersStand}
+
+-- the hosts stand for a trace: there is one for each host of the topology, and each stands for it
+pub record HostsStand (topo : Topology) (tr : List Entry) (hosts : List HostState) : Type 0 where
+  pub count : length hosts ≡ length (seats_of topo)
+  pub each : (place : ℕ) (seat : Seat) (state : HostState) → slice_get (seats_of topo) place ≡ Some seat → slice_get hosts place ≡ Some state → HostStands topo tr seat state
 
 -- what is kept stands for a trace on a topology: it is this topology, with the links, the flights, the time and the number
--- of inputs of the trace, and the trace left every host up
+-- of inputs of the trace, and its hosts and routers stand for the trace
 pub record StandsFor (topo : Topology) (tr : List Entry) (kept : Kept) : Type 0 where
   pub topology : kept.topo ≡ topo
   pub links : kept.links ≡ links_now topo tr
   pub flights : kept.flights ≡ flights_of tr
   pub time : kept.ticks ≡ now_of tr
   pub inputs : kept.inputs ≡ input_count tr
-  pub up : (name : List ℕ) → is_down tr name ≡ false
+  pub hosts : HostsStand topo tr kept.hosts
+  pub routers : RoutersStand topo tr kept.routers
 
 -- for every trace that is stood for before: the events are those that the rules give, and what is kept after them stands
 -- for the trace with the input and these events on top

@@ -1,5 +1,5 @@
 -- The links as they are, and what lies at each port.
-use Rattle.std.specs.Prelude.{◌≡◌, ℕ, ◌<◌, List, length, All, Vec, ⊤}
+use Rattle.std.specs.Prelude.{◌≡◌, ℕ, ◌<◌, ◌^◌, List, length, All, Vec, ⊤}
 use Rattle.std.specs.declared.alloc.Global.{Global}
 use Rattle.domain_routes.specs.declared.Edge.{Edge}
 use Rattle.domain_routes.specs.Walks.{IsSound}
@@ -18,9 +18,11 @@ pub record Wired : Type 0 where
   pub links : List Edge
   pub rows : List (Vec Neighbour Global)
 
--- the links join routers, and the routes that are kept are those over the links
+-- the links join routers, no router has more ports than 16 bits number, and the routes that are kept are those over the
+-- links
 pub record HoldsRoutes (wiring : Inside) : Type 0 where
   pub sound : IsSound wiring.graph.domains.items wiring.graph.edges.items
+  pub short : (router : ℕ) → length (row_of wiring.rows.items router) < 2 ^ 16
   pub routes : AreRoutesOver wiring.graph.domains.items wiring.graph.edges.items wiring.routes
 
 -- what lies at a port leads to one of the first n routers, if it is a link's end

@@ -7,12 +7,13 @@ ghost use Rattle.aip_addr.specs.declared.ids.Id.{Id as Ad};
 ghost use Rattle.aip_addr.specs.declared.ids.Address.{Address as Place};
 ghost use Rattle.aip_rules.specs.Nodes.{seats_of, seat_named, seat_with_address, router_named, router_with_address, domain_with_ad, address_named, is_same_address, name_at};
 ghost use Rattle.aip_rules.specs.Routes.{goal_of, goal_inside};
+ghost use Rattle.aip_core.specs.Machine.{seat_place};
 ghost use Rattle.aip_core.specs.Directory.{name_cmp, id_cmp, address_cmp, SitsBelow};
 
 use crate::index::places_of;
 use aip_addr::{Address, Id, Name};
 use aip_rules::Seat;
-use aip_topo::{Domain, Router, Topology};
+use aip_topo::{Domain, Router, Settings, Topology};
 use domain_routes::Goal;
 use std::alloc::{AllocError, Global};
 use std::collections::BTreeMap;
@@ -172,12 +173,27 @@ impl Directory {
         })
     }
 
+    /// The settings.
+    pub fn settings(&self) -> Settings
+        ensures { result ≡ self.now.settings }
+    {
+        self.topology.settings
+    }
+
     /// The routers, by their places.
     pub fn routers(&self) -> &[Router]
         ensures routers { result.now ≡ self.now.routers }
         ensures few { length self.now.routers ≤ 256 }
     {
         self.topology.routers.as_slice()
+    }
+
+    /// The place of the host of this name.
+    pub fn place_of_host(&self, name: &Name) -> Option<u16>
+        ensures found { result ≡ seat_place (seats_of self.now) name.now }
+        ensures there { IfSome result (λ place. place < length (seats_of self.now)) }
+    {
+        self.host_names.get(name).copied()
     }
 
     /// The host of this name.

@@ -1,41 +1,51 @@
 //! The core: what stands after the inputs so far, and a step.
 
-ghost use Rattle.std.specs.Prelude.{◌≡◌, ◌<◌, ◌≤◌, ◌^◌, ◌+◌, ◌++◌, ◌∷◌, [], List, length, slice_get, Ok, Err, Some, IsTrue, IsOk, IfOk, IfErr, OnOk};
+ghost use Rattle.std.specs.Prelude.{◌≡◌, ◌<◌, ◌≤◌, ◌^◌, ◌+◌, ◌++◌, ◌∷◌, [], ℕ, List, length, slice_get, option_map, Ok, Err, Some, IsTrue, IsOk, IfOk, IfErr, OnOk};
+ghost use Rattle.aip_event.specs.declared.input.Input.TheVariants.{Deliver, Restart};
+ghost use Rattle.aip_host.specs.HostState.{HostState};
 ghost use Rattle.aip_rules.specs.declared.Entry.{Entry as Record};
+ghost use Rattle.aip_rules.specs.declared.StepFault.TheVariants as fault;
 ghost use Rattle.aip_topo.specs.declared.topology.Topology.{Topology as Network};
 ghost use Rattle.aip_topo.specs.Sound.{IsSound};
 ghost use Rattle.aip_rules.specs.State.{now_of, flight_count, ticks_of};
-ghost use Rattle.aip_rules.specs.Nodes.{seats_of, seat_named, address_named};
 ghost use Rattle.aip_rules.specs.Routes.{domains_of_routers};
 ghost use Rattle.aip_rules.specs.Reaction.{numbered, in_put, put_event};
-ghost use Rattle.aip_rules.specs.Step.{is_built, ticked};
+ghost use Rattle.aip_rules.specs.Step.{injected, is_built, ticked};
 ghost use Rattle.aip_rules.specs.Texts.{is_built_topology};
 ghost use Rattle.aip_rules.specs.Laws.{PutAtMostOne};
-ghost use Rattle.aip_core.specs.Machine.{kept_at_start, kept_sent, kept_relinked, kept_delivered, kept_outcome, kept_after, links_with, LinkIsThere, reached, IsKeptStep};
+ghost use Rattle.aip_core.specs.Machine.{AreSeated, at_host_or, host_of, host_outcome, is_at_host, kept_outcome, kept_relinked, unless_hindered};
+ghost use Rattle.aip_core.specs.Moves.{Does, GoesToPort, LinkIsThere, Moved, IsKeptStep, host_named_by, host_touched, router_touched, kept_after, links_with};
 ghost use Rattle.aip_core.specs.StandsFor.{StandsFor, IsStep};
+ghost use Rattle.aip_core.specs.Starting.{IsKeptAtStart};
 ghost use Rattle.aip_core.specs.Answers.{IsOutcome, IsRefusal, IsKeptRefusal};
-ghost use Rattle.aip_core.specs.Wiring.{IsWiringOf};
 
+use crate::checks::Checks;
 use crate::directory::Directory;
 use crate::flights::Flights;
+use crate::host::{act_at, can_be_put};
 use crate::places::{Places, places_of};
-use crate::reactions::{NoReaction, nothing};
+use crate::reactions::NoReaction;
+use crate::routers::{arrive_at, checks_of, started};
+use crate::starting::hosts_of;
 use crate::wiring::Wiring;
-use crate::{host, router};
-use aip_addr::Name;
+use aip_addr::{Bytes, Name};
 use aip_event::{Events, Input, Target};
+use aip_host::Host;
 use aip_rules::{Flight, MOST_INPUTS, Reaction, StepFault};
 use aip_topo::{Router, Topology};
 use std::alloc::{AllocError, Global};
 use std::marker::Model;
 
-/// The network as it runs. Contracts see its topology, its links as they are, its flights, its time and the number of
-/// inputs that it took; and these stand for a trace.
+/// The network as it runs. Contracts see its topology, its links as they are, its flights, its hosts and what its routers
+/// keep, its time and the number of inputs that it took; and these stand for a trace.
 #[derive(Drop)]
 pub struct Core {
     directory: Directory,
     wiring: Wiring,
     flights: Flights,
+    // The hosts and what the routers keep, by their places.
+    hosts: Vec<Host>,
+    routers: Vec<Checks>,
     ticks: u64,
     inputs: u32,
 }
@@ -47,7 +57,7 @@ impl Model for Core {
 
     ghost use Rattle.aip_core.specs.Rooms.{FitTogether};
 
-    ghost view = { λ c. record { topo = c.directory; links = c.wiring.links; flights = c.flights; ticks = c.ticks; inputs = c.inputs } };
+    ghost view = { λ c. record { topo = c.directory; links = c.wiring.links; flights = c.flights; hosts = c.hosts.items; routers = c.routers.items; ticks = c.ticks; inputs = c.inputs } };
 
     ghost invariant = { FitTogether };
 }
@@ -126,47 +136,25 @@ fn put_behind(
     }
 }
 
-// What happens where bytes arrive at a target.
-fn arrive(
-    alloc: Global,
-    directory: &Directory,
-    wiring: &mut Wiring,
-    target: &Target,
-    bytes: &[u8],
-) -> Result<Reaction, AllocError>
-    requires { IsWiringOf directory.now wiring.old }
-    ensures same { wiring.new ≡ wiring.old }
-    ensures reaction { IfOk result (λ reaction. reaction ≡ reached directory.now wiring.old.links target.now bytes.now) }
-{
-    match target {
-        Target::Port { router, port } => match directory.router_named(router) {
-            Some(place) => router::arrive(alloc, directory, wiring, place, *port, bytes),
-            None => Ok(nothing(alloc)),
-        },
-        Target::Host { name } => match directory.seat_named(name) {
-            Some(seat) => host::arrive(alloc, &seat, bytes),
-            None => Ok(nothing(alloc)),
-        },
-    }
-}
-
 impl Core {
     // The core of a topology before any input.
     fn start(alloc: Global, topology: Topology) -> Result<Core, AllocError>
         requires { IsSound topology }
-        ensures { IfOk result (λ core. core ≡ kept_at_start topology) }
+        ensures { IfOk result (IsKeptAtStart topology) }
     {
-        let Places { seats, links, rows } = places_of(
-            alloc,
-            topology.routers.as_slice(),
-            topology.parts.as_slice(),
-        )?;
-        let domains = domains_of(alloc, topology.routers.as_slice())?;
-        let wiring = Wiring::new(alloc, domains, links, rows);
+        let settings = topology.settings;
+        let routers = topology.routers.as_slice();
+        let parts = topology.parts.as_slice();
+        let Places { seats, links, rows } = places_of(alloc, routers, parts)?;
+        let hosts = hosts_of(alloc, &settings, routers, &seats, parts)?;
+        let checks = checks_of(alloc, &settings, routers.len())?;
+        let domains = domains_of(alloc, routers)?;
         Ok(Core {
             directory: Directory::new(alloc, topology, seats)?,
-            wiring,
+            wiring: Wiring::new(alloc, domains, links, rows),
             flights: Flights::new(alloc),
+            hosts,
+            routers: checks,
             ticks: 0,
             inputs: 0,
         })
@@ -174,7 +162,6 @@ impl Core {
 
     /// The core of a topology before any input, all links up. It stands for the empty trace. The only error is want of
     /// memory.
-    #[tactic(auto, using(crate::proofs::Correspond::starts_at))]
     pub fn new(alloc: Global, topology: Topology) -> Result<Core, AllocError>
         requires sound { IsSound topology }
         requires built { IsTrue (is_built_topology topology) }
@@ -206,7 +193,7 @@ impl Core {
         if ticks == 0 || ticks >= (1 << 48) - self.ticks {
             return Err(StepFault::Range);
         }
-        Ok(nothing(alloc))
+        Ok(Reaction::nothing(alloc))
     }
 
     // A link is cut or mended.
@@ -216,47 +203,163 @@ impl Core {
         if link >= self.wiring.link_count() as u64 {
             return Err(StepFault::Range);
         }
-        Ok(nothing(alloc))
+        Ok(Reaction::nothing(alloc))
     }
 
-    // A host sends.
-    fn send(
-        &self,
+    // Why nothing from outside can reach a target, if nothing can.
+    fn hindrance(&self, to: &Target) -> Option<StepFault>
+        ensures { (bytes : List ℕ) → injected self.now.topo to.now bytes ≡ unless_hindered result to.now bytes }
+    {
+        match to {
+            Target::Port { router, port } => match self.directory.router_named(router) {
+                Some(place) => {
+                    if *port >= self.wiring.port_count(place).into() {
+                        Some(StepFault::Range)
+                    } else {
+                        None
+                    }
+                }
+                None => Some(StepFault::Unknown),
+            },
+            Target::Host { name } => match self.directory.seat_named(name) {
+                Some(_) => None,
+                None => Some(StepFault::Unknown),
+            },
+        }
+    }
+
+    // Bytes come from outside.
+    fn inject(&self, alloc: Global, to: &Target, bytes: &[u8]) -> Result<Reaction, NoReaction>
+        ensures { IsOutcome (injected self.now.topo to.now bytes.now) result }
+    {
+        if let Some(fault) = self.hindrance(to) {
+            return Err(NoReaction::Fault(fault));
+        }
+        if !can_be_put(bytes.len()) {
+            return Err(NoReaction::Fault(StepFault::Range));
+        }
+        Ok(Reaction::puts(alloc, *to, Bytes::from_slice(alloc, bytes)?))
+    }
+
+    // What comes of an input at the host at a place, which it names.
+    fn act(&mut self, alloc: Global, place: u16, input: &Input) -> Result<Reaction, NoReaction>
+        requires acts { IsTrue (is_at_host input.now) }
+        requires named { host_touched self.old.topo self.old.flights input.now ≡ Some place }
+        ensures { (host : HostState) → slice_get self.old.hosts place ≡ Some host
+            → Does (host_outcome self.old.topo self.old.flights self.old.ticks host input.now)
+            (λ reaction old new. Moved old input.now reaction new) self.old result self.new }
+    {
+        act_at(
+            alloc,
+            &self.directory,
+            &self.flights,
+            self.ticks,
+            &mut self.hosts,
+            place,
+            input,
+        )
+    }
+
+    // What comes of an input at the host of this name, which it gives. Without one the name is unknown.
+    fn act_named(
+        &mut self,
         alloc: Global,
         host: &Name,
-        node: &Name,
-        packet: u64,
-        body: &[u8],
+        input: &Input,
     ) -> Result<Reaction, NoReaction>
-        ensures { IsOutcome (kept_sent self.now.topo (seat_named (seats_of self.now.topo) host.now)
-            (address_named self.now.topo node.now) packet body.now) result }
+        requires acts { IsTrue (is_at_host input.now) }
+        requires named { host_named_by self.old.flights input.now ≡ Some host.now }
+        ensures { Does (at_host_or (Err fault.Unknown) self.old input.now (host_of self.old host.now))
+            (λ reaction old new. Moved old input.now reaction new) self.old result self.new }
     {
-        match self.directory.seat_named(host) {
-            Some(seat) => match self.directory.address_named(node) {
-                Some(to) => host::send(alloc, &self.directory, &seat, to, packet, body),
-                None => Err(NoReaction::Fault(StepFault::Unknown)),
-            },
+        match self.directory.place_of_host(host) {
+            Some(place) => self.act(alloc, place, input),
             None => Err(NoReaction::Fault(StepFault::Unknown)),
         }
     }
 
-    // A flight is delivered, if it was put.
-    fn deliver(&mut self, alloc: Global, flight: u64) -> Result<Reaction, NoReaction>
-        ensures same { self.new ≡ self.old }
-        ensures outcome { IsOutcome (kept_delivered self.old (slice_get self.old.flights flight)) result }
+    // What comes of a restart, at the host or the router of this name.
+    fn restart(
+        &mut self,
+        alloc: Global,
+        node: &Name,
+        input: &Input,
+    ) -> Result<Reaction, NoReaction>
+        requires { input.now ≡ Restart node.now }
+        ensures { Does (kept_outcome self.old input.now) (λ reaction old new. Moved old input.now reaction new) self.old result self.new }
+    {
+        match self.directory.place_of_host(node) {
+            Some(place) => self.act(alloc, place, input),
+            None => match self.directory.router_named(node) {
+                Some(_) => Ok(Reaction::nothing(alloc)),
+                None => Err(NoReaction::Fault(StepFault::Unknown)),
+            },
+        }
+    }
+
+    // A flight that was put towards a port arrives at the router at a place.
+    fn cross(
+        &mut self,
+        alloc: Global,
+        place: u16,
+        port: u64,
+        flight: u64,
+    ) -> Result<Reaction, NoReaction>
+        requires there { router_touched self.old.topo self.old.flights (Deliver flight) ≡ Some place }
+        requires port { GoesToPort (slice_get self.old.flights flight) port }
+        ensures { Does (kept_outcome self.old (Deliver flight)) (λ reaction old new. Moved old (Deliver flight) reaction new) self.old result self.new }
     {
         match self.flights.find(flight as usize) {
-            Some(found) => {
-                let bytes = found.bytes.as_slice();
-                let reaction = arrive(
-                    alloc,
-                    &self.directory,
-                    &mut self.wiring,
-                    &found.target,
-                    bytes,
-                )?;
-                Ok(reaction)
-            }
+            Some(found) => Ok(arrive_at(
+                alloc,
+                &self.directory,
+                &mut self.wiring,
+                &mut self.routers,
+                place,
+                port,
+                self.ticks,
+                found.bytes.as_slice(),
+            )?),
+            None => Err(NoReaction::Fault(StepFault::NoFlight)),
+        }
+    }
+
+    // A flight that was put is delivered to its target.
+    fn reach(
+        &mut self,
+        alloc: Global,
+        flight: u64,
+        to: &Target,
+        input: &Input,
+    ) -> Result<Reaction, NoReaction>
+        requires taken { input.now ≡ Deliver flight }
+        requires there { option_map (λ f. f.target) (slice_get self.old.flights flight) ≡ Some to.now }
+        ensures { Does (kept_outcome self.old input.now) (λ reaction old new. Moved old input.now reaction new) self.old result self.new }
+    {
+        match to {
+            Target::Port { router, port } => match self.directory.router_named(router) {
+                Some(place) => self.cross(alloc, place, *port, flight),
+                None => Ok(Reaction::nothing(alloc)),
+            },
+            Target::Host { name } => match self.directory.place_of_host(name) {
+                Some(place) => self.act(alloc, place, input),
+                None => Ok(Reaction::nothing(alloc)),
+            },
+        }
+    }
+
+    // A flight is delivered, if it was put.
+    fn deliver(
+        &mut self,
+        alloc: Global,
+        flight: u64,
+        input: &Input,
+    ) -> Result<Reaction, NoReaction>
+        requires { input.now ≡ Deliver flight }
+        ensures { Does (kept_outcome self.old input.now) (λ reaction old new. Moved old input.now reaction new) self.old result self.new }
+    {
+        match self.flights.target(flight as usize) {
+            Some(to) => self.reach(alloc, flight, &to, input),
             None => Err(NoReaction::Fault(StepFault::NoFlight)),
         }
     }
@@ -264,20 +367,20 @@ impl Core {
     // What comes of an input, where one more may be taken.
     fn outcome(&mut self, alloc: Global, input: &Input) -> Result<Reaction, NoReaction>
         requires { IsTrue (is_built input.now) }
-        ensures same { self.new ≡ self.old }
-        ensures outcome { IsOutcome (kept_outcome self.old input.now) result }
+        ensures { Does (kept_outcome self.old input.now) (λ reaction old new. Moved old input.now reaction new) self.old result self.new }
     {
         match input {
-            Input::Deliver { flight } => self.deliver(alloc, *flight),
+            Input::Deliver { flight } => self.deliver(alloc, *flight, input),
             Input::Tick { ticks } => Ok(self.tick(alloc, *ticks)?),
-            Input::Send {
-                host,
-                node,
-                packet,
-                body,
-            } => self.send(alloc, host, node, *packet, body.as_slice()),
+            Input::Inject { target, bytes } => self.inject(alloc, target, bytes.as_slice()),
             Input::Cut { link } | Input::Mend { link } => Ok(self.relink(alloc, *link)?),
-            _ => unreachable!(),
+            Input::Restart { node } => self.restart(alloc, node, input),
+            Input::Send { host, .. } => self.act_named(alloc, host, input),
+            Input::Raw { host, .. } => self.act_named(alloc, host, input),
+            Input::Shutoff { host, .. } => self.act_named(alloc, host, input),
+            Input::Stop { host, .. } => self.act_named(alloc, host, input),
+            Input::Halt { host, .. } => self.act_named(alloc, host, input),
+            Input::Publish { .. } => unreachable!(),
         }
     }
 
@@ -298,15 +401,20 @@ impl Core {
             directory,
             wiring,
             mut flights,
+            hosts,
+            routers,
             ticks,
             inputs,
         } = self;
         let Reaction { mut events, put } = reaction;
         put_behind(alloc, &mut flights, &mut events, put)?;
+        let routers = started(&directory, routers, input);
         let core = Core {
             directory,
             wiring: linked(alloc, wiring, input),
             flights,
+            hosts,
+            routers,
             ticks: ticks + ticks_of(input),
             inputs: inputs + 1,
         };
@@ -318,6 +426,7 @@ impl Core {
     fn take(self, alloc: Global, input: Input) -> Result<(Core, Events), StepEnd>
         requires { IsTrue (is_built input) }
         ensures sound { IsSound self.topo }
+        ensures seated { AreSeated self.topo self.hosts }
         ensures taken { IfOk result (λ taken. IsKeptStep self input taken.0 taken.1) }
         ensures refused { IfErr result (IsKeptRefusal self input) }
     {

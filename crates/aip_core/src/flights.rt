@@ -1,11 +1,11 @@
 //! The flights that were put.
 
-ghost use Rattle.std.specs.Prelude.{◌≡◌, ◌++◌, ◌∷◌, [], length, slice_get, IfOk, OnOk};
+ghost use Rattle.std.specs.Prelude.{◌≡◌, ◌++◌, ◌∷◌, [], length, slice_get, option_map, IfOk, OnOk};
 ghost use Rattle.std.specs.Option.{option_copied};
 ghost use Rattle.aip_event.specs.declared.event.Event.TheVariants.{Put};
 
 use aip_addr::Bytes;
-use aip_event::Event;
+use aip_event::{Event, Target};
 use aip_rules::Flight;
 use std::alloc::{AllocError, Global};
 use std::marker::Model;
@@ -62,6 +62,16 @@ impl Flights {
         ensures { result ≡ length self.now }
     {
         self.entries.len()
+    }
+
+    /// Where the flight of a number goes, if it was put.
+    pub fn target(&self, number: usize) -> Option<Target>
+        ensures { result ≡ option_map (λ flight. flight.target) (slice_get self.now number) }
+    {
+        match self.entries.get(number) {
+            Some(flight) => Some(flight.target),
+            None => None,
+        }
     }
 
     /// The flight of a number, if it was put.

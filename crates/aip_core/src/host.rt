@@ -1,78 +1,228 @@
-//! What a host does.
+//! What comes of an input at the host that it lets act, stops, halts or restarts.
 
-ghost use Rattle.std.specs.Prelude.{◌≡◌, ◌<◌, length, Some, IsSome, IfSome, IfOk};
+ghost use Rattle.std.specs.Prelude.{◌≡◌, ◌<◌, ℕ, length, map, slice_get, option_copied, IsTrue, Ok, Some};
 ghost use Rattle.aip_frame.specs.Frame.{frame_of};
-ghost use Rattle.aip_core.specs.Answers.{IsOutcome};
-ghost use Rattle.aip_core.specs.Machine.{kept_sent, kind_reached, seat_reached};
+ghost use Rattle.aip_host.specs.HostState.{HostState, standing_of};
+ghost use Rattle.aip_rules.specs.Host.{back_up};
+ghost use Rattle.aip_rules.specs.State.{frame_in};
+ghost use Rattle.aip_rules.specs.Step.{can_be_put};
+ghost use Rattle.aip_core.specs.Machine.{kept_sent, kept_raw, kept_heard, kept_shut_named, kept_stop, kept_halt, host_outcome, is_at_host};
+ghost use Rattle.aip_core.specs.Moves.{Does, GoesOn, HostMoves, IsAnew, IsStopped, MovesAt};
 
 use crate::directory::Directory;
-use crate::reactions::{NoReaction, dropped, happens, puts};
-use aip_addr::{Address, Bytes};
-use aip_event::{Event, Reason, Target};
-use aip_frame::{Frame, Kind, MOST_BODY, encode, is_frame, kind_of, packet_of, to_of};
-use aip_rules::{Reaction, Seat, StepFault};
-use std::alloc::{AllocError, Global};
+use crate::flights::Flights;
+use crate::reactions::NoReaction;
+use aip_addr::Address;
+use aip_event::Input;
+use aip_frame::{MOST_BODY, is_frame};
+use aip_host::Host;
+use aip_rules::{Flight, Reaction, StepFault};
+use std::alloc::Global;
 
-// A frame that is for the host.
-fn take_in(alloc: Global, seat: &Seat, bytes: &[u8]) -> Result<Reaction, AllocError>
-    requires { IsSome (frame_of bytes.now) }
-    ensures { IfOk result (λ reaction. IfSome (frame_of bytes.now) (λ frame. reaction ≡ kind_reached seat.now frame frame.kind)) }
+// The most bytes that are put at once.
+const MOST_BYTES: usize = 9216;
+
+/// Whether so many bytes can be put.
+pub fn can_be_put(count: usize) -> bool
+    ensures { result ≡ can_be_put count }
 {
-    match kind_of(bytes) {
-        Kind::Data => happens(
-            alloc,
-            Event::Got {
-                host: seat.name,
-                packet: packet_of(bytes).into(),
-            },
-        ),
-        Kind::Challenge => dropped(alloc, seat.name, Reason::Mute),
-        Kind::Response => dropped(alloc, seat.name, Reason::Kind),
-        Kind::ShutOff => dropped(alloc, seat.name, Reason::Unguarded),
-    }
+    count != 0 && count <= MOST_BYTES
 }
 
-/// What happens where bytes arrive at a host. The only error is want of memory.
-pub fn arrive(alloc: Global, seat: &Seat, bytes: &[u8]) -> Result<Reaction, AllocError>
-    ensures { IfOk result (λ reaction. reaction ≡ seat_reached seat.now (frame_of bytes.now)) }
-{
-    if !is_frame(bytes) {
-        return dropped(alloc, seat.name, Reason::Bad);
-    }
-    if seat.address == to_of(bytes) {
-        take_in(alloc, seat, bytes)
-    } else {
-        dropped(alloc, seat.name, Reason::Stray)
-    }
-}
-
-/// A host sends a data frame to an address. The only error is want of memory.
-pub fn send(
+// The host sends a data frame to an address, if it is known.
+fn send(
     alloc: Global,
-    directory: &Directory,
-    seat: &Seat,
-    to: Address,
+    host: &mut Host,
+    to: Option<Address>,
     packet: u64,
     body: &[u8],
 ) -> Result<Reaction, NoReaction>
-    requires { seat.now.router < length directory.now.routers }
-    ensures { IsOutcome (kept_sent directory.now (Some seat.now) (Some to) packet body.now) result }
+    ensures does { (now : ℕ) → Does (kept_sent now host.old to packet body.now) GoesOn host.old result host.new }
+    ensures seat { host.new.seat ≡ host.old.seat }
 {
+    let Some(to) = to else {
+        return Err(NoReaction::Fault(StepFault::Unknown));
+    };
     if packet >= 1 << 32 || body.len() > MOST_BODY {
         return Err(NoReaction::Fault(StepFault::Range));
     }
-    let frame = Frame {
-        kind: Kind::Data,
-        hop: 64,
-        packet: packet as u32,
-        to,
-        from: seat.address,
-        body: Bytes::from_slice(alloc, body)?,
-    };
-    let bytes = encode(alloc, &frame)?;
-    let target = Target::Port {
-        router: directory.name_at(seat.router),
-        port: seat.port.into(),
-    };
-    Ok(puts(alloc, target, bytes))
+    Ok(host.send(alloc, to, packet as u32, body)?)
+}
+
+// The host puts bytes as they are.
+fn put(alloc: Global, host: &mut Host, bytes: &[u8]) -> Result<Reaction, NoReaction>
+    ensures does { (now : ℕ) → Does (kept_raw now host.old bytes.now) GoesOn host.old result host.new }
+    ensures seat { host.new.seat ≡ host.old.seat }
+{
+    if !can_be_put(bytes.len()) {
+        return Err(NoReaction::Fault(StepFault::Range));
+    }
+    Ok(host.raw(alloc, bytes)?)
+}
+
+// A flight arrives at the host, if it was put.
+fn hear(
+    alloc: Global,
+    host: &mut Host,
+    now: u64,
+    flight: Option<&Flight>,
+) -> Result<Reaction, NoReaction>
+    ensures does { Does (kept_heard now host.old (option_copied flight.entry)) GoesOn host.old result host.new }
+    ensures seat { host.new.seat ≡ host.old.seat }
+{
+    match flight {
+        Some(flight) => Ok(host.arrive(alloc, now, flight.bytes.as_slice())?),
+        None => Err(NoReaction::Fault(StepFault::NoFlight)),
+    }
+}
+
+// The host signs a shut-off that names these bytes.
+fn silence(
+    alloc: Global,
+    host: &mut Host,
+    now: u64,
+    bytes: &[u8],
+    ttl: u64,
+) -> Result<Reaction, NoReaction>
+    ensures does { Does (kept_shut_named now host.old (frame_of bytes.now) ttl) GoesOn host.old result host.new }
+    ensures seat { host.new.seat ≡ host.old.seat }
+{
+    if !is_frame(bytes) {
+        return Err(NoReaction::Fault(StepFault::NoFlight));
+    }
+    if ttl >= 1 << 32 {
+        return Err(NoReaction::Fault(StepFault::Range));
+    }
+    if !host.has_key() {
+        return Err(NoReaction::Fault(StepFault::Keyless));
+    }
+    Ok(host.shut(alloc, now, bytes, ttl as u32)?)
+}
+
+// The host signs a shut-off of a flight, if it was put.
+fn shut(
+    alloc: Global,
+    host: &mut Host,
+    now: u64,
+    flight: Option<&Flight>,
+    ttl: u64,
+) -> Result<Reaction, NoReaction>
+    ensures does { Does (kept_shut_named now host.old (frame_in (option_copied flight.entry)) ttl) GoesOn host.old result host.new }
+    ensures seat { host.new.seat ≡ host.old.seat }
+{
+    match flight {
+        Some(flight) => silence(alloc, host, now, flight.bytes.as_slice(), ttl),
+        None => Err(NoReaction::Fault(StepFault::NoFlight)),
+    }
+}
+
+// A stop of the host's signings is armed.
+fn stop(alloc: Global, host: &mut Host, call: u64, byte: u64) -> Result<Reaction, NoReaction>
+    ensures does { Does (kept_stop host.old call byte) (λ reaction. IsStopped (record { call = call; byte = byte })) host.old result host.new }
+    ensures seat { host.new.seat ≡ host.old.seat }
+{
+    if call == 0 || call > 2 || byte >= 256 {
+        return Err(NoReaction::Fault(StepFault::Range));
+    }
+    if !host.has_key() {
+        return Err(NoReaction::Fault(StepFault::Keyless));
+    }
+    host.stop(call as u8, byte as u8);
+    Ok(Reaction::nothing(alloc))
+}
+
+// A halt of the host's filter is armed.
+fn halt(alloc: Global, host: &mut Host, call: u64, byte: u64) -> Result<Reaction, NoReaction>
+    ensures does { Does (kept_halt call byte) (λ reaction old new. new ≡ old) host.old result host.new }
+    ensures seat { host.new.seat ≡ host.old.seat }
+{
+    if call == 0 || call > 4 || byte >= 256 {
+        return Err(NoReaction::Fault(StepFault::Range));
+    }
+    host.halt(call as u8, byte as u8);
+    Ok(Reaction::nothing(alloc))
+}
+
+// The host starts anew.
+fn restart(alloc: Global, host: &mut Host) -> Result<Reaction, NoReaction>
+    ensures does { (now : ℕ) → Does (Ok (back_up (standing_of host.old now))) (λ reaction. IsAnew) host.old result host.new }
+    ensures seat { host.new.seat ≡ host.old.seat }
+{
+    Ok(host.restart(alloc)?)
+}
+
+// What comes of an input at the host that it names.
+fn act(
+    alloc: Global,
+    directory: &Directory,
+    flights: &Flights,
+    now: u64,
+    host: &mut Host,
+    input: &Input,
+) -> Result<Reaction, NoReaction>
+    requires { IsTrue (is_at_host input.now) }
+    ensures does { Does (host_outcome directory.now flights.now now host.old input.now) (HostMoves input.now) host.old result host.new }
+    ensures seat { host.new.seat ≡ host.old.seat }
+{
+    match input {
+        Input::Send {
+            host: _,
+            node,
+            packet,
+            body,
+        } => send(
+            alloc,
+            host,
+            directory.address_named(node),
+            *packet,
+            body.as_slice(),
+        ),
+        Input::Raw { host: _, bytes } => put(alloc, host, bytes.as_slice()),
+        Input::Deliver { flight } => hear(alloc, host, now, flights.find(*flight as usize)),
+        Input::Shutoff {
+            host: _,
+            flight,
+            ttl,
+        } => shut(alloc, host, now, flights.find(*flight as usize), *ttl),
+        Input::Restart { node: _ } => restart(alloc, host),
+        Input::Stop {
+            host: _,
+            call,
+            byte,
+        } => stop(alloc, host, *call, *byte),
+        Input::Halt {
+            host: _,
+            call,
+            byte,
+        } => halt(alloc, host, *call, *byte),
+        _ => unreachable!(),
+    }
+}
+
+/// What comes of an input at the host that it names, which stands at this place. After a fault the hosts are as they were,
+/// and after want of memory they are of no use.
+pub fn act_at(
+    alloc: Global,
+    directory: &Directory,
+    flights: &Flights,
+    now: u64,
+    hosts: &mut Vec<Host>,
+    place: u16,
+    input: &Input,
+) -> Result<Reaction, NoReaction>
+    requires acts { IsTrue (is_at_host input.now) }
+    requires there { place < length hosts.old.items }
+    ensures seats { map (λ host. host.seat) hosts.new.items ≡ map (λ host. host.seat) hosts.old.items }
+    ensures acts { (host : HostState) → slice_get hosts.old.items place ≡ Some host
+        → Does (host_outcome directory.now flights.now now host input.now)
+        (λ reaction old new. MovesAt HostState (Some place) (HostMoves input.now reaction) old new) hosts.old.items result hosts.new.items }
+{
+    act(
+        alloc,
+        directory,
+        flights,
+        now,
+        &mut hosts[place as usize],
+        input,
+    )
 }

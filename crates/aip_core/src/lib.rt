@@ -14,15 +14,23 @@
 //! ```
 #![tactic(auto)]
 
+mod asking;
+mod checks;
 mod directory;
 mod engine;
 mod flights;
 mod host;
 mod index;
+mod passing;
 mod places;
+mod ports;
 mod reactions;
 mod router;
+mod routers;
 mod routes;
+mod starting;
+#[cfg(test)]
+mod tests;
 mod wiring;
 
 pub use aip_rules::{Entry, Flight, StepFault};

@@ -180,6 +180,7 @@ pub fn places_of(alloc: Global, routers: &[Router], parts: &[Part]) -> Result<Pl
     ensures seats { IfOk result (λ p. p.seats.items ≡ seats_after routers.now [] parts.now) }
     ensures links { IfOk result (λ p. p.links.items ≡ links_after [] parts.now) }
     ensures rows { IfOk result (λ p. (router : ℕ) → row_of p.rows.items router ≡ neighbours_after [] parts.now router) }
+    ensures short { IfOk result (λ p. (router : ℕ) → length (row_of p.rows.items router) < 2 ^ 16) }
 {
     let mut counts = vec![in alloc; 0u16; routers.len()]?;
     let mut places = Places {

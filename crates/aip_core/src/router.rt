@@ -1,27 +1,25 @@
 //! What a router does.
 
-ghost use Rattle.std.specs.Prelude.{◌≡◌, ◌<◌, ◌≤◌, length, Some, IsSome, IfSome, IfOk, slice_get};
-ghost use Rattle.aip_frame.specs.Frame.{frame_bytes, frame_of};
-ghost use Rattle.aip_rules.specs.Nodes.{target_at, target_towards};
-ghost use Rattle.aip_rules.specs.Routes.{goal_of, port_of_seat, port_to_goal, port_over};
-ghost use Rattle.aip_rules.specs.Reaction.{happens_and_puts};
-ghost use Rattle.aip_rules.specs.Router.{one_hop_less};
-ghost use Rattle.aip_event.specs.declared.event.Event.TheVariants.{Forward};
-ghost use Rattle.aip_event.specs.declared.event.Cause.TheVariants.{Open};
-ghost use Rattle.aip_core.specs.Machine.{frame_over, passed_on, taken_over, router_over};
-ghost use Rattle.aip_core.specs.Wiring.{IsWiringOf, LeadsBelow};
+ghost use Rattle.std.specs.Prelude.{◌≡◌, ◌<◌, length, slice_get, IsSome, IfSome, IfOk, OnOk};
+ghost use Rattle.aip_frame.specs.Frame.{frame_of};
+ghost use Rattle.aip_rules.specs.Router.{is_link, proved};
+ghost use Rattle.aip_core.specs.RouterMachine.{arrival_of, kept_responded, kept_own, kept_taken, kept_at_place, after_response, after_own, after_taken, after_place};
+ghost use Rattle.aip_core.specs.Wiring.{IsWiringOf};
 
+use crate::asking::key_of;
+use crate::checks::Checks;
 use crate::directory::Directory;
-use crate::reactions::{dropped, happens_and_puts, nothing};
+use crate::passing::pass;
 use crate::wiring::Wiring;
-use aip_addr::{Address, Bytes};
-use aip_event::{Cause, Event, Reason, Target};
-use aip_frame::{hop_of, is_frame, set_hop, to_of};
-use aip_rules::{Neighbour, Reaction, Seat};
+use aip_addr::Address;
+use aip_event::{Event, Events, Reason};
+use aip_frame::{Kind, hop_of, is_frame, kind_of, to_of};
+use aip_rules::{Neighbour, Reaction};
 use aip_topo::Router;
 use std::alloc::{AllocError, Global};
+use verify_packet::{Checked, check};
 
-/// Where a flight arrives: a router, at its place among the routers, and its port.
+/// Where and when a flight arrives: a router, at its place among the routers, its port, and the time.
 #[derive(Clone, Copy)]
 pub struct Arrival {
     /// The router's place.
@@ -30,153 +28,107 @@ pub struct Arrival {
     pub own: Router,
     /// Its port.
     pub port: u64,
+    /// The time.
+    pub time: u64,
 }
 
-// The port of a host that stands at this router.
-fn port_of_seat(router: u16, seat: Option<Seat>) -> Option<u16>
-    ensures { result ≡ port_of_seat router seat }
+// Whether a link lies at a port.
+fn is_link(neighbour: Option<Neighbour>) -> bool
+    ensures { result ≡ is_link neighbour }
 {
-    match seat {
-        Some(seat) => {
-            if seat.router == router {
-                Some(seat.port)
-            } else {
-                None
-            }
-        }
-        None => None,
-    }
-}
-
-// The port towards the goal of an address.
-fn port_to_goal(
-    alloc: Global,
-    directory: &Directory,
-    wiring: &mut Wiring,
-    router: u16,
-    own: &Router,
-    address: &Address,
-) -> Result<Option<u16>, AllocError>
-    requires { IsWiringOf directory.now wiring.old }
-    ensures same { wiring.new ≡ wiring.old }
-    ensures port { IfOk result (λ port. port ≡ port_to_goal directory.now wiring.old.links router (goal_of directory.now own.now.domain address.now)) }
-{
-    match directory.goal_of(own.domain, address) {
-        Some(goal) => wiring.port_towards(alloc, router, goal),
-        None => Ok(None),
-    }
-}
-
-// The port of a router towards an address.
-fn port_over(
-    alloc: Global,
-    directory: &Directory,
-    wiring: &mut Wiring,
-    router: u16,
-    own: &Router,
-    address: &Address,
-) -> Result<Option<u16>, AllocError>
-    requires { IsWiringOf directory.now wiring.old }
-    ensures same { wiring.new ≡ wiring.old }
-    ensures port { IfOk result (λ port. port ≡ port_over directory.now wiring.old.links router own.now address.now) }
-{
-    if own.address == *address {
-        return Ok(None);
-    }
-    match port_of_seat(router, directory.seat_with_address(address)) {
-        Some(port) => Ok(Some(port)),
-        None => port_to_goal(alloc, directory, wiring, router, own, address),
-    }
-}
-
-// What a frame goes towards that is put towards what lies at a port of the router.
-fn towards(directory: &Directory, neighbour: Option<Neighbour>, router: u16, port: u16) -> Target
-    requires there { router < length directory.now.routers }
-    requires leads { IfSome neighbour (LeadsBelow (length directory.now.routers)) }
-    ensures { result ≡ target_towards directory.now.routers neighbour router port }
-{
-    let Some(neighbour) = neighbour else {
-        return Target::Port {
-            router: directory.name_at(router),
-            port: port.into(),
-        };
-    };
     match neighbour {
-        Neighbour::Host { name } => Target::Host { name },
-        Neighbour::Link {
-            router: other,
-            port: far,
-            trusted: _,
-        } => Target::Port {
-            router: directory.name_at(other),
-            port: far.into(),
-        },
+        Some(Neighbour::Link { .. }) => true,
+        Some(Neighbour::Host { .. }) | None => false,
     }
 }
 
-// What a frame goes towards that the router puts on a port.
-fn target_at(directory: &Directory, wiring: &Wiring, router: u16, port: u16) -> Target
-    requires wired { IsWiringOf directory.now wiring.now }
-    requires there { router < length directory.now.routers }
-    ensures { result ≡ target_at directory.now router port }
-{
-    towards(directory, wiring.neighbour(router, port), router, port)
-}
-
-// The bytes of the frame with its hop limit lowered by one.
-fn one_hop_less(alloc: Global, bytes: &[u8]) -> Result<Bytes, AllocError>
-    requires { IsSome (frame_of bytes.now) }
-    ensures { IfOk result (λ less. IfSome (frame_of bytes.now) (λ frame. less ≡ frame_bytes (one_hop_less frame))) }
-{
-    let mut frame = Vec::from_slice(alloc, bytes)?;
-    set_hop(&mut frame, hop_of(bytes).saturating_sub(1));
-    Ok(Bytes::from_vec(frame))
-}
-
-// The router forwards the frame on the port `out`.
-fn forward(
+// The router tells that a source is proved at a port, and that its domain is a wildcard there, if it is.
+fn proved(
     alloc: Global,
-    at: &Arrival,
-    out: u16,
-    target: Target,
-    bytes: &[u8],
+    own: &Router,
+    source: Address,
+    port: u16,
+    wild: bool,
 ) -> Result<Reaction, AllocError>
-    requires { IsSome (frame_of bytes.now) }
-    ensures { IfOk result (λ reaction. IfSome (frame_of bytes.now) (λ frame.
-        reaction ≡ happens_and_puts (Forward at.now.own.name at.now.port out Open) target (frame_bytes (one_hop_less frame)))) }
+    ensures { IfOk result (λ reaction. reaction ≡ proved own.now source port wild) }
 {
-    let bytes = one_hop_less(alloc, bytes)?;
-    let event = Event::Forward {
-        router: at.own.name,
-        in_port: at.port,
-        out_port: out.into(),
-        cause: Cause::Open,
-    };
-    happens_and_puts(alloc, event, target, bytes)
+    let mut events = Events::new(alloc);
+    events.push(Event::Proved {
+        router: own.name,
+        source,
+        port: port.into(),
+    })?;
+    if wild {
+        events.push(Event::Wild {
+            router: own.name,
+            ad: source.ad,
+            port: port.into(),
+        })?;
+    }
+    Ok(Reaction { events, put: None })
 }
 
-// A frame that has a hop left and isn't for the router itself.
-fn pass(
+// What the router does with a response that it has judged.
+fn respond(
     alloc: Global,
     directory: &Directory,
-    wiring: &mut Wiring,
+    wiring: &Wiring,
+    checks: &mut Checks,
+    at: &Arrival,
+    verdict: Checked,
+) -> Result<Reaction, AllocError>
+    requires wired { IsWiringOf directory.now wiring.now }
+    ensures reaction { IfOk result (λ reaction.
+        reaction ≡ kept_responded directory.now checks.old at.now.time at.now.place at.now.own verdict) }
+    ensures after { OnOk result (checks.new ≡ after_response directory.now checks.old at.now.time at.now.place verdict) }
+    ensures boot { checks.new.boot ≡ checks.old.boot }
+{
+    match verdict {
+        Checked::Proved { source, port } => {
+            let link = is_link(wiring.neighbour(at.place, port.into()));
+            let wild = checks.prove(&source, port, link, at.time)?;
+            proved(alloc, &at.own, source, port, wild)
+        }
+        refusal => Reaction::happens(
+            alloc,
+            Event::Refuse {
+                router: at.own.name,
+                number: refusal.number(),
+            },
+        ),
+    }
+}
+
+// A frame for the router itself.
+fn take_own(
+    alloc: Global,
+    directory: &Directory,
+    wiring: &Wiring,
+    checks: &mut Checks,
     at: &Arrival,
     bytes: &[u8],
 ) -> Result<Reaction, AllocError>
-    requires wired { IsWiringOf directory.now wiring.old }
-    requires there { at.now.place < length directory.now.routers }
+    requires wired { IsWiringOf directory.now wiring.now }
+    requires epochs { 0 < directory.now.settings.epoch }
     requires frame { IsSome (frame_of bytes.now) }
-    ensures same { wiring.new ≡ wiring.old }
     ensures reaction { IfOk result (λ reaction. IfSome (frame_of bytes.now) (λ frame.
-        reaction ≡ passed_on directory.now (record { place = at.now.place; self = at.now.own; port = at.now.port }) frame
-        (port_over directory.now wiring.old.links at.now.place at.now.own frame.to))) }
+        reaction ≡ kept_own directory.now checks.old at.now.time (arrival_of at.now) frame)) }
+    ensures after { OnOk result (IfSome (frame_of bytes.now) (λ frame.
+        checks.new ≡ after_own directory.now checks.old at.now.time (arrival_of at.now) frame)) }
+    ensures boot { checks.new.boot ≡ checks.old.boot }
 {
-    match port_over(alloc, directory, wiring, at.place, &at.own, &to_of(bytes))? {
-        Some(out) => {
-            let target = target_at(directory, wiring, at.place, out);
-            forward(alloc, at, out, target, bytes)
+    if !at.own.checking {
+        return Reaction::dropped(alloc, at.own.name, Reason::Mine);
+    }
+    match kind_of(bytes) {
+        Kind::Response => {
+            let key = key_of(directory, wiring, checks.boot(), at);
+            let verdict = check(&key, at.time, bytes);
+            respond(alloc, directory, wiring, checks, at, verdict)
         }
-        None => dropped(alloc, at.own.name, Reason::NoRoute),
+        Kind::Data | Kind::Challenge | Kind::ShutOff => {
+            Reaction::dropped(alloc, at.own.name, Reason::Mine)
+        }
     }
 }
 
@@ -185,40 +137,52 @@ fn take_in(
     alloc: Global,
     directory: &Directory,
     wiring: &mut Wiring,
+    checks: &mut Checks,
     at: &Arrival,
     bytes: &[u8],
 ) -> Result<Reaction, AllocError>
     requires wired { IsWiringOf directory.now wiring.old }
     requires there { at.now.place < length directory.now.routers }
+    requires epochs { 0 < directory.now.settings.epoch }
     ensures same { wiring.new ≡ wiring.old }
-    ensures reaction { IfOk result (λ reaction. reaction ≡ taken_over directory.now wiring.old.links
-        (record { place = at.now.place; self = at.now.own; port = at.now.port }) (frame_of bytes.now)) }
+    ensures reaction { IfOk result (λ reaction.
+        reaction ≡ kept_taken directory.now wiring.old.links checks.old at.now.time (arrival_of at.now) (frame_of bytes.now)) }
+    ensures after { OnOk result (
+        checks.new ≡ after_taken directory.now wiring.old.links checks.old at.now.time (arrival_of at.now) (frame_of bytes.now)) }
+    ensures boot { checks.new.boot ≡ checks.old.boot }
 {
     if !is_frame(bytes) {
-        return dropped(alloc, at.own.name, Reason::Bad);
+        return Reaction::dropped(alloc, at.own.name, Reason::Bad);
     }
     if at.own.address == to_of(bytes) {
-        return dropped(alloc, at.own.name, Reason::Mine);
+        return take_own(alloc, directory, wiring, checks, at, bytes);
     }
     if hop_of(bytes) <= 1 {
-        return dropped(alloc, at.own.name, Reason::Hops);
+        return Reaction::dropped(alloc, at.own.name, Reason::Hops);
     }
-    pass(alloc, directory, wiring, at, bytes)
+    pass(alloc, directory, wiring, checks, at, bytes)
 }
 
-/// What happens where bytes arrive at a port of the router at a place, if there is one. The only error is want of memory.
+/// What happens where bytes arrive at a port of the router at a place at a time, if there is one, and what it keeps then,
+/// which is `checks` before. The only error is want of memory; what the router keeps is of no use after it.
 pub fn arrive(
     alloc: Global,
     directory: &Directory,
     wiring: &mut Wiring,
+    checks: &mut Checks,
     place: u16,
     port: u64,
+    now: u64,
     bytes: &[u8],
 ) -> Result<Reaction, AllocError>
-    requires { IsWiringOf directory.now wiring.old }
+    requires wired { IsWiringOf directory.now wiring.old }
+    requires epochs { 0 < directory.now.settings.epoch }
     ensures same { wiring.new ≡ wiring.old }
-    ensures reaction { IfOk result (λ reaction. reaction ≡ router_over directory.now wiring.old.links place
-        (slice_get directory.now.routers place) port bytes.now) }
+    ensures reaction { IfOk result (λ reaction.
+        reaction ≡ kept_at_place directory.now wiring.old.links checks.old now place (slice_get directory.now.routers place) port bytes.now) }
+    ensures after { OnOk result (
+        checks.new ≡ after_place directory.now wiring.old.links checks.old now place (slice_get directory.now.routers place) port bytes.now) }
+    ensures boot { checks.new.boot ≡ checks.old.boot }
 {
     match directory.routers().get(place as usize) {
         Some(own) => {
@@ -226,9 +190,10 @@ pub fn arrive(
                 place,
                 own: *own,
                 port,
+                time: now,
             };
-            take_in(alloc, directory, wiring, &at, bytes)
+            take_in(alloc, directory, wiring, checks, &at, bytes)
         }
-        None => Ok(nothing(alloc)),
+        None => Ok(Reaction::nothing(alloc)),
     }
 }

@@ -1,8 +1,8 @@
 //! The links as they are, and what lies at the ports of each router.
 
-ghost use Rattle.std.specs.Prelude.{◌≡◌, ◌<◌, length, slice_get, IfOk};
+ghost use Rattle.std.specs.Prelude.{◌≡◌, ◌<◌, ◌^◌, ℕ, length, slice_get, IfOk, IfSome};
 ghost use Rattle.domain_routes.specs.Walks.{IsSound, port_towards};
-ghost use Rattle.aip_core.specs.Machine.{with_link};
+ghost use Rattle.aip_core.specs.Moves.{with_link};
 ghost use Rattle.aip_core.specs.Places.{row_of};
 
 use crate::routes::Routes;
@@ -65,7 +65,8 @@ impl Wiring {
         links: Vec<Edge>,
         rows: Vec<Vec<Neighbour>>,
     ) -> Wiring
-        requires { IsSound domains.items links.items }
+        requires sound { IsSound domains.items links.items }
+        requires short { (router : ℕ) → length (row_of rows.items router) < 2 ^ 16 }
         ensures { result ≡ record { domains = domains.items; links = links.items; rows = rows.items } }
     {
         Wiring {
@@ -113,13 +114,25 @@ impl Wiring {
         }
     }
 
-    /// What lies at a port of a router.
-    pub fn neighbour(&self, router: u16, port: u16) -> Option<Neighbour>
-        ensures { result ≡ slice_get (row_of self.now.rows router) port }
+    /// What lies at a port of a router. Where something lies, the port's number has 16 bits.
+    #[tactic(auto, using(crate::proofs::RouterPorts::port_is_low))]
+    pub fn neighbour(&self, router: u16, port: u64) -> Option<Neighbour>
+        ensures found { result ≡ slice_get (row_of self.now.rows router) port }
+        ensures low { IfSome result (λ _. port < 2 ^ 16) }
     {
         match self.rows.get(router as usize) {
             Some(row) => row.get(port as usize).copied(),
             None => None,
+        }
+    }
+
+    /// How many ports a router has.
+    pub fn port_count(&self, router: u16) -> u16
+        ensures { result ≡ length (row_of self.now.rows router) }
+    {
+        match self.rows.get(router as usize) {
+            Some(row) => row.len() as u16,
+            None => 0,
         }
     }
 

@@ -1,5 +1,14 @@
 //! The inputs and the events of a simulated network, and the one line that each of them has in a
 //! text.
+//!
+//! ```text
+//! if let Some(input) = read_input(alloc, b"deliver 3")? {
+//!     // .. a step of the network takes the input, and gives events:
+//!     for event in events.as_slice() {
+//!         write_event(alloc, event, &mut text)?;
+//!     }
+//! }
+//! ```
 #![tactic(auto)]
 
 mod event;

@@ -4,6 +4,13 @@
 //! over them is proved once, for files in memory and for those of the system. What a shelf holds and
 //! what a sink has taken is told or not; where it is told, each clause speaks of the bytes. A count of
 //! faults shows that a failure came from the shelf or the sink and not from the code that uses it.
+//!
+//! ```text
+//! let mut lines = Lines::new(alloc, 20_000)?;
+//! while let Got::Line | Got::Last = lines.next(&mut shelf, "net.sched") {
+//!     put_all(&mut sink, lines.line())?;
+//! }
+//! ```
 #![tactic(auto)]
 
 mod dir_shelf;

@@ -46,6 +46,12 @@ found_all P test [] h = tt
 found_all P test (x ∷ xs) h =
     elim (test x) as (λ b. IfSome (cond b (Some x) (find test xs)) P) [ true ↦ h.0 | false ↦ found_all P test xs h.1 ]
 
+-- what holds of each holds of the one at a place
+pub placed_all : {A : Type 0} (P : A → Type 0) (xs : List A) (k : ℕ) → AllByRecursion P xs → IfSome (slice_get xs k) P
+placed_all P [] k h = tt
+placed_all P (x ∷ xs) zero h = h.0
+placed_all P (x ∷ xs) (suc k) h = placed_all P xs k h.1
+
 -- the domain's id at a place has its size
 ad_sized : (domains : List Domain) (k : ℕ) (ad : Id) → AllByRecursion IsDomain domains → ad_at k domains ≡ Some ad → IsSizedId ad
 ad_sized [] k ad all e = absurd cc
@@ -76,7 +82,7 @@ ad_of_sized [] k there h = absurd (omega arith)
 ad_of_sized (router ∷ routers) zero there h = h.0.ad
 ad_of_sized (router ∷ routers) (suc k) there h = ad_of_sized routers k (omega arith) h.1
 
-hosts_sized : (routers : List Router) (before parts : List Part) → AllByRecursion HasSized routers → AllByRecursion (IsPartOf (length routers)) parts
+pub hosts_sized : (routers : List Router) (before parts : List Part) → AllByRecursion HasSized routers → AllByRecursion (IsPartOf (length routers)) parts
     → AllByRecursion HasSizedAddress (seats_after routers before parts)
 hosts_sized routers before [] h is = tt
 hosts_sized routers before (Host host ∷ parts) h is =
@@ -86,6 +92,10 @@ hosts_sized routers before (Link link ∷ parts) h is = hosts_sized routers (Lin
 -- the addresses of a sound topology's routers have their sizes
 pub all_routers_sized : (topo : Topology) → IsSound topo → AllByRecursion HasSized topo.routers
 all_routers_sized topo sound = routers_sized topo.domains topo.routers sound.domains sound.routers
+
+-- the address of a router at a place has its size
+pub router_at_sized : (topo : Topology) (place : ℕ) → IsSound topo → IfSome (slice_get topo.routers place) HasSized
+router_at_sized topo place sound = placed_all HasSized topo.routers place (all_routers_sized topo sound)
 
 -- the address of a host that is found by its name has its size
 pub seat_sized : (topo : Topology) (name : List ℕ) → IsSound topo → IfSome (seat_named (seats_of topo) name) HasSizedAddress

@@ -2,8 +2,11 @@ pub mod State
 pub mod Nodes
 pub mod Routes
 pub mod Reaction
+pub mod Accepted
 pub mod Router
+pub mod Standing
 pub mod Host
 pub mod Step
 pub mod Texts
 pub mod Laws
+pub mod Promises

@@ -16,6 +16,7 @@ use Rattle.aip_topo.specs.declared.topology.Part.{Part}
 use Rattle.aip_topo.specs.declared.topology.Part.TheVariants.{Host, Link}
 use Rattle.aip_topo.specs.declared.topology.Topology.{Topology}
 use Rattle.domain_routes.specs.declared.Edge.{Edge}
+use Rattle.lms_core.specs.Tree.{Key as PrivateKey}
 use Rattle.aip_rules.specs.declared.Seat.{Seat}
 use Rattle.aip_rules.specs.declared.Neighbour.{Neighbour}
 use Rattle.aip_rules.specs.declared.Neighbour.TheVariants as neighbour
@@ -79,16 +80,34 @@ seat_named seats name = find (λ seat. bytes_eq seat.name name) seats
 abbrev pub seat_with_address : List Seat → Address → Option Seat
 seat_with_address seats address = find (λ seat. is_same_address seat.address address) seats
 
--- the key was made from a seed
-abbrev pub is_made : Key → Bool
-is_made key.Given = false
-is_made (key.Made tree) = true
+-- the host of this name on these lines
+abbrev pub host_named : List Part → List ℕ → Option HostPart
+host_named [] name = None
+host_named (Host host ∷ parts) name = if bytes_eq host.name name then Some host else host_named parts name
+host_named (Link link ∷ parts) name = host_named parts name
 
--- the host of this name has a key
-abbrev pub has_key : List Part → List ℕ → Bool
-has_key [] name = false
-has_key (Host host ∷ parts) name = if bytes_eq host.name name then is_made host.key else has_key parts name
-has_key (Link link ∷ parts) name = has_key parts name
+-- the private key that was made from a seed, if one was
+abbrev pub made_key : Key → Option PrivateKey
+made_key key.Given = None
+made_key (key.Made tree) = Some tree
+
+-- the private key of a host, if there is a host and it has one
+abbrev pub key_of_host : Option HostPart → Option PrivateKey
+key_of_host None = None
+key_of_host (Some host) = made_key host.key
+
+-- the private key of the host of this name
+abbrev pub key_named : List Part → List ℕ → Option PrivateKey
+key_named parts name = key_of_host (host_named parts name)
+
+-- there is a host, and a guard stands before its sending
+abbrev pub is_guarded_host : Option HostPart → Bool
+is_guarded_host None = false
+is_guarded_host (Some host) = host.guarded
+
+-- a guard stands before the sending of the host of this name
+abbrev pub is_guarded : List Part → List ℕ → Bool
+is_guarded parts name = is_guarded_host (host_named parts name)
 
 -- the place of the router of this name
 abbrev pub router_named : List Router → List ℕ → Option ℕ

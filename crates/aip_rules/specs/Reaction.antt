@@ -46,3 +46,7 @@ events_on tr reaction = numbered (flight_count tr) reaction
 abbrev pub in_put : Option Flight → List Flight
 in_put None = []
 in_put (Some flight) = flight ∷ []
+
+-- a reaction with one event before it
+abbrev pub behind : Event → Reaction → Reaction
+behind event reaction = record { events = event ∷ reaction.events; put = reaction.put }

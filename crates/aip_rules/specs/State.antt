@@ -1,14 +1,17 @@
 -- What stands after a trace. A trace is a list of entries, the newest first: each input that was taken, and on top of
 -- it its events.
-use Rattle.std.specs.Prelude.{ℕ, ◌+◌, ◌==◌, Bool, true, false, if◌then◌else◌, List, [], ◌∷◌, ◌++◌, length, slice_get, Option}
+use Rattle.std.specs.Prelude.{ℕ, ◌+◌, ◌==◌, Bool, true, false, if◌then◌else◌, List, [], ◌∷◌, ◌++◌, length, slice_get, Option, Some, None}
 use Rattle.std.specs.Str.{bytes_eq}
+use Rattle.aip_frame.specs.declared.frame.Frame.{Frame}
+use Rattle.aip_frame.specs.Frame.{frame_of}
 use Rattle.aip_event.specs.declared.input.Input.{Input}
-use Rattle.aip_event.specs.declared.input.Input.TheVariants.{Tick, Cut, Mend, Restart}
+use Rattle.aip_event.specs.declared.input.Input.TheVariants.{Tick, Cut, Mend, Restart, Stop, Halt, Deliver}
 use Rattle.aip_event.specs.declared.event.Event.{Event}
 use Rattle.aip_event.specs.declared.event.Event.TheVariants.{Put, Stopped, Halted}
 use Rattle.aip_rules.specs.declared.Entry.{Entry}
 use Rattle.aip_rules.specs.declared.Entry.TheVariants.{Taken, Happened}
 use Rattle.aip_rules.specs.declared.Flight.{Flight}
+use Rattle.aip_rules.specs.declared.Arming.{Arming}
 
 -- the ticks of an input
 abbrev pub ticks_of : Input → ℕ
@@ -45,6 +48,26 @@ flight_at tr k = slice_get (flights_of tr) k
 -- how many flights were put
 abbrev pub flight_count : List Entry → ℕ
 flight_count tr = length (flights_of tr)
+
+-- the flight that an input delivers, if it delivers one
+abbrev pub delivered_by : List Entry → Input → Option Flight
+delivered_by tr (Deliver flight) = flight_at tr flight
+delivered_by tr _ = None
+
+-- the flight that the newest input delivers: the events above it come of it
+abbrev pub delivery : List Entry → Option Flight
+delivery [] = None
+delivery (Taken input ∷ tr) = delivered_by tr input
+delivery (Happened event ∷ tr) = delivery tr
+
+-- the frame of a flight, if there is a flight and its bytes are a frame
+abbrev pub frame_in : Option Flight → Option Frame
+frame_in None = None
+frame_in (Some flight) = frame_of flight.bytes
+
+-- the frame that the newest input delivers
+abbrev pub delivered_frame : List Entry → Option Frame
+delivered_frame tr = frame_in (delivery tr)
 
 -- the input starts the node of this name anew
 abbrev pub is_restart_of : Input → List ℕ → Bool
@@ -84,3 +107,39 @@ abbrev pub is_down : List Entry → List ℕ → Bool
 is_down [] name = false
 is_down (Taken input ∷ tr) name = if is_restart_of input name then false else is_down tr name
 is_down (Happened event ∷ tr) name = if is_fall_of event name then true else is_down tr name
+
+-- the stop of a signing that is armed at a host after an input, where this one was before: a stop takes the place of an
+-- earlier one, and a restart disarms
+abbrev pub stop_after_input : Input → List ℕ → Option Arming → Option Arming
+stop_after_input (Stop host call byte) name before = if bytes_eq host name then Some (record { call = call; byte = byte }) else before
+stop_after_input (Restart node) name before = if bytes_eq node name then None else before
+stop_after_input _ name before = before
+
+-- the event spends a stop of a signing of the host of this name
+abbrev pub is_stop_of : Event → List ℕ → Bool
+is_stop_of (Stopped host leaf call byte) name = bytes_eq host name
+is_stop_of _ name = false
+
+-- the stop of a signing that is armed at the host of this name: the last one, unless a restart or a signing that was
+-- stopped came since
+abbrev pub armed_stop : List Entry → List ℕ → Option Arming
+armed_stop [] name = None
+armed_stop (Taken input ∷ tr) name = stop_after_input input name (armed_stop tr name)
+armed_stop (Happened event ∷ tr) name = if is_stop_of event name then None else armed_stop tr name
+
+-- the halt of a filter's disk that is armed at a host after an input, where this one was before
+abbrev pub halt_after_input : Input → List ℕ → Option Arming → Option Arming
+halt_after_input (Halt host call byte) name before = if bytes_eq host name then Some (record { call = call; byte = byte }) else before
+halt_after_input (Restart node) name before = if bytes_eq node name then None else before
+halt_after_input _ name before = before
+
+-- the event spends a halt of the filter's disk of the host of this name
+abbrev pub is_halt_of : Event → List ℕ → Bool
+is_halt_of (Halted host sender until call byte) name = bytes_eq host name
+is_halt_of _ name = false
+
+-- the halt that is armed at the host of this name: the last one, unless a restart or a write that was halted came since
+abbrev pub armed_halt : List Entry → List ℕ → Option Arming
+armed_halt [] name = None
+armed_halt (Taken input ∷ tr) name = halt_after_input input name (armed_halt tr name)
+armed_halt (Happened event ∷ tr) name = if is_halt_of event name then None else armed_halt tr name

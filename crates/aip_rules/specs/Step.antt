@@ -2,11 +2,10 @@
 use Rattle.std.specs.Prelude.{ℕ, ◌+◌, ◌^◌, ◌==◌, ◌||◌, Bool, true, false, if◌then◌else◌, nat_lt, nat_le, List, [], ◌∷◌, length, slice_get, Option, Some, None, Result, Ok, Err}
 use Rattle.aip_addr.specs.declared.ids.Address.{Address}
 use Rattle.aip_frame.specs.declared.frame.Frame.{Frame}
-use Rattle.aip_frame.specs.Frame.{frame_bytes, frame_of, most_body}
+use Rattle.aip_frame.specs.Frame.{frame_bytes, most_body}
 use Rattle.aip_event.specs.declared.input.Input.{Input}
 use Rattle.aip_event.specs.declared.input.Input.TheVariants.{Tick, Send, Raw, Deliver, Inject, Cut, Mend, Shutoff, Restart, Stop, Halt, Publish}
 use Rattle.aip_event.specs.declared.event.Event.{Event}
-use Rattle.aip_event.specs.declared.event.Reason.TheVariants as reason
 use Rattle.aip_event.specs.declared.input.Target.{Target}
 use Rattle.aip_event.specs.declared.input.Target.TheVariants as target
 use Rattle.aip_topo.specs.declared.topology.Router.{Router}
@@ -18,22 +17,20 @@ use Rattle.aip_rules.specs.declared.Reaction.{Reaction}
 use Rattle.aip_rules.specs.declared.Seat.{Seat}
 use Rattle.aip_rules.specs.declared.StepFault.{StepFault}
 use Rattle.aip_rules.specs.declared.StepFault.TheVariants as fault
-use Rattle.aip_rules.specs.State.{now_of, input_count, flight_at, is_down}
-use Rattle.aip_rules.specs.Nodes.{seats_of, seat_named, router_named, address_named, links_of, neighbours_of, has_key}
-use Rattle.aip_rules.specs.Reaction.{nothing, dropped, puts, events_on}
+use Rattle.aip_rules.specs.State.{now_of, input_count, flight_at, frame_in}
+use Rattle.aip_rules.specs.Nodes.{seats_of, seat_named, router_named, address_named, links_of, neighbours_of, key_named}
+use Rattle.aip_rules.specs.Reaction.{nothing, puts, events_on}
 use Rattle.aip_rules.specs.Router.{at_router}
-use Rattle.aip_rules.specs.Host.{at_host, put_by, sent_frame}
+use Rattle.aip_rules.specs.Standing.{standing}
+use Rattle.aip_rules.specs.Host.{at_host, back_up, put_by, sent_frame, shut_by}
+use Rattle.lms_core.specs.Tree.{Key}
 
--- the inputs that are built: time, sending, delivering, and links cut and mended
+-- the inputs that are built: all but the publication of a record
 abbrev pub is_built : Input → Bool
-is_built (Tick ticks) = true
-is_built (Send host node packet body) = true
-is_built (Deliver flight) = true
-is_built (Cut link) = true
-is_built (Mend link) = true
-is_built _ = false
+is_built (Publish bytes) = false
+is_built _ = true
 
--- what an input that isn't built yet comes to is still to come; no run takes one
+-- what a publication comes to is still to come; no run takes one
 abbrev pub still_to_come : Reaction
 still_to_come = nothing
 
@@ -59,13 +56,13 @@ sent topo tr None to packet body = Err fault.Unknown
 sent topo tr (Some seat) None packet body = Err fault.Unknown
 sent topo tr (Some seat) (Some to) packet body =
     refused_if (nat_le (2 ^ 32) packet || nat_lt most_body (length body)) fault.Range
-    (Ok (put_by topo tr seat (frame_bytes (sent_frame to seat.address packet body))))
+    (Ok (put_by (standing topo tr seat) (frame_bytes (sent_frame to seat.address packet body))))
 
 -- a host puts bytes as they are
 abbrev pub put_raw : Topology → List Entry → Option Seat → List ℕ → Result Reaction StepFault
 put_raw topo tr None bytes = Err fault.Unknown
 put_raw topo tr (Some seat) bytes =
-    if can_be_put (length bytes) then Ok (put_by topo tr seat bytes) else Err fault.Range
+    if can_be_put (length bytes) then Ok (put_by (standing topo tr seat) bytes) else Err fault.Range
 
 -- what happens where bytes arrive at the router at this place, if there is one
 abbrev pub arrives_at_router : Topology → List Entry → ℕ → Option Router → ℕ → List ℕ → Reaction
@@ -82,7 +79,7 @@ arrives_at_port topo tr (Some place) port bytes =
 -- what happens where bytes arrive at a host, if there is one of this name
 abbrev pub arrives_at_seat : Topology → List Entry → Option Seat → List ℕ → Reaction
 arrives_at_seat topo tr None bytes = nothing
-arrives_at_seat topo tr (Some seat) bytes = at_host topo tr seat bytes
+arrives_at_seat topo tr (Some seat) bytes = at_host (standing topo tr seat) bytes
 
 -- what happens where bytes arrive at a target
 abbrev pub arrives : Topology → List Entry → Target → List ℕ → Reaction
@@ -116,42 +113,39 @@ injected topo (target.Host name) bytes = injected_at_host (seat_named (seats_of 
 abbrev pub relinked : Topology → ℕ → Result Reaction StepFault
 relinked topo link = if nat_lt link (length (links_of topo)) then Ok nothing else Err fault.Range
 
--- the bytes are a frame
-abbrev pub is_some_frame : Option Frame → Bool
-is_some_frame None = false
-is_some_frame (Some frame) = true
+-- the host has a key, and signs a shut-off with it
+abbrev pub shut_with : Topology → List Entry → Seat → Frame → ℕ → Option Key → Result Reaction StepFault
+shut_with topo tr seat named ttl None = Err fault.Keyless
+shut_with topo tr seat named ttl (Some key) = Ok (shut_by (standing topo tr seat) key named ttl)
 
--- a flight that was put, and whose bytes are a frame, is named by a shut-off
-abbrev pub is_named_frame : Option Flight → Bool
-is_named_frame None = false
-is_named_frame (Some flight) = is_some_frame (frame_of flight.bytes)
+-- a host signs a shut-off that names a frame: the time that it lasts is below 2^32, and the host has a key
+abbrev pub shut_named : Topology → List Entry → Seat → Option Frame → ℕ → Result Reaction StepFault
+shut_named topo tr seat None ttl = Err fault.NoFlight
+shut_named topo tr seat (Some named) ttl =
+    refused_if (nat_le (2 ^ 32) ttl) fault.Range (shut_with topo tr seat named ttl (key_named topo.parts seat.name))
 
--- a host with a key signs a shut-off, and drops it while it is down. What it signs is still to come.
-abbrev pub shut_off_by : List Entry → Seat → Reaction
-shut_off_by tr seat = if is_down tr seat.name then dropped seat.name reason.Down else still_to_come
-
--- a host signs a shut-off of a flight: the host is known, the flight is a frame, the time is below 2^32, and the host has
--- a key
+-- a host signs a shut-off of a flight: the host is known, and the flight was put and is a frame
 abbrev pub shut_off : Topology → List Entry → Option Seat → Option Flight → ℕ → Result Reaction StepFault
 shut_off topo tr None flight ttl = Err fault.Unknown
-shut_off topo tr (Some seat) flight ttl =
-    if is_named_frame flight then
-    refused_if (nat_le (2 ^ 32) ttl) fault.Range
-    (if has_key topo.parts seat.name then Ok (shut_off_by tr seat) else Err fault.Keyless)
-    else Err fault.NoFlight
+shut_off topo tr (Some seat) flight ttl = shut_named topo tr seat (frame_in flight) ttl
 
--- a node starts anew: it is known. What a guarded host was told and then says is still to come, and no topology that is
--- run has one; any other node says nothing.
-abbrev pub restarted : Option Address → Result Reaction StepFault
-restarted None = Err fault.Unknown
-restarted (Some address) = Ok nothing
+-- a node starts anew: a host or a router of this name is known. A router says nothing.
+abbrev pub restarted : Topology → List Entry → Option Seat → Option ℕ → Result Reaction StepFault
+restarted topo tr (Some seat) router = Ok (back_up (standing topo tr seat))
+restarted topo tr None (Some router) = Ok nothing
+restarted topo tr None None = Err fault.Unknown
+
+-- the host has a key
+abbrev pub has_key : Option Key → Bool
+has_key None = false
+has_key (Some key) = true
 
 -- a stop of a host's signing is armed: the host is known and has a key, the call is 1 or 2, and the byte is one
 abbrev pub stop_armed : Topology → Option Seat → ℕ → ℕ → Result Reaction StepFault
 stop_armed topo None call byte = Err fault.Unknown
 stop_armed topo (Some seat) call byte =
     refused_if ((call == 0) || (nat_lt 2 call || nat_le 256 byte)) fault.Range
-    (if has_key topo.parts seat.name then Ok nothing else Err fault.Keyless)
+    (if has_key (key_named topo.parts seat.name) then Ok nothing else Err fault.Keyless)
 
 -- a halt of the disk on which a host keeps shut-offs is armed: the host is known, whether it is guarded or not, the call is
 -- 1 to 4, and the byte is one
@@ -176,7 +170,7 @@ outcome_of topo tr (Cut link) = relinked topo link
 outcome_of topo tr (Mend link) = relinked topo link
 outcome_of topo tr (Shutoff host flight ttl) =
     shut_off topo tr (seat_named (seats_of topo) host) (flight_at tr flight) ttl
-outcome_of topo tr (Restart node) = restarted (address_named topo node)
+outcome_of topo tr (Restart node) = restarted topo tr (seat_named (seats_of topo) node) (router_named topo.routers node)
 outcome_of topo tr (Stop host call byte) = stop_armed topo (seat_named (seats_of topo) host) call byte
 outcome_of topo tr (Halt host call byte) = halt_armed (seat_named (seats_of topo) host) call byte
 outcome_of topo tr (Publish bytes) = published bytes

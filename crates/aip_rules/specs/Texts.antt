@@ -7,7 +7,6 @@ use Rattle.aip_event.specs.declared.input.Input.{Input}
 use Rattle.aip_event.specs.declared.event.Event.{Event}
 use Rattle.aip_event.specs.Lines.{input_line, event_line}
 use Rattle.aip_event.specs.Reading.{input_of}
-use Rattle.aip_topo.specs.declared.topology.Router.{Router}
 use Rattle.aip_topo.specs.declared.topology.Part.{Part}
 use Rattle.aip_topo.specs.declared.topology.Part.TheVariants.{Host, Link}
 use Rattle.aip_topo.specs.declared.topology.Topology.{Topology}
@@ -107,18 +106,14 @@ ran_from topo tr number (line ∷ lines) =
 abbrev pub ran : Topology → List ℕ → Ran
 ran topo schedule = ran_from topo [] 1 (lines_of schedule)
 
--- a router that is open
-abbrev pub is_open : Router → Bool
-is_open router = if router.checking then false else true
-
 -- a link, or a plain host
 abbrev pub is_plain : Part → Bool
 is_plain (Host host) = if host.guarded then false else true
 is_plain (Link link) = true
 
--- the topologies that are built: every router is open and every host is plain
+-- the topologies that are built: every host is plain
 abbrev pub is_built_topology : Topology → Bool
-is_built_topology topo = if list_all is_open topo.routers then list_all is_plain topo.parts else false
+is_built_topology topo = list_all is_plain topo.parts
 
 -- the run over what a topology text gives; nothing is run where it is refused or not built
 abbrev pub ran_over : Result Topology RefusedLine → List ℕ → Ran

@@ -1,16 +1,28 @@
 //! The rules of the network, as definitions over traces: what stands after a trace, what a step is at a router and at a
 //! host, what is written for a topology and a schedule, and how the run ends.
 //!
-//! The definitions are in `specs/`. This crate has the types that they speak of and no code that acts.
+//! The definitions are in `specs/`. This crate has the types that they speak of, and no code that acts.
+//!
+//! ```text
+//! ghost use Rattle.aip_rules.specs.Step.{step_of};
+//!
+//! /// Takes one input.
+//! fn step(..)
+//!     ensures { (tr : List Entry) → StandsFor topo tr self → step_of topo tr input ≡ Ok events }
+//! ```
 #![tactic(auto)]
 
 ghost use Rattle.std.specs.Prelude.{◌≡◌};
 
 mod laws;
+mod reactions;
 
 use aip_addr::{Address, Bytes, Name};
 use aip_event::{Event, Events, Input, Target};
-pub use laws::{a_run_has_the_trace_of_its_lines, an_input_puts_at_most_one_flight};
+pub use laws::{
+    a_run_has_the_trace_of_its_lines, an_input_puts_at_most_one_flight, each_forward_is_justified,
+    guards_are_silent, no_leaf_signs_twice,
+};
 use thiserror::Error;
 
 /// The most inputs of a trace.
@@ -74,6 +86,15 @@ pub struct Seat {
     pub port: u16,
     /// Its address: the domain of its router, and its own id.
     pub address: Address,
+}
+
+/// A stop of a disk that is armed: the call at which it falls, counted from 1, and the byte that it then leaves.
+#[derive(Clone, Copy, Debug, PartialEq, Eq)]
+pub struct Arming {
+    /// The call: 1 or 2 of a signing, 1 to 4 of a filter's write.
+    pub call: u8,
+    /// The byte.
+    pub byte: u8,
 }
 
 /// Why a line of a schedule is refused. A step of the network gives all but `Form` and `Long`.

@@ -1,5 +1,5 @@
 -- A run, from what its parts answer.
-use Rattle.std.proofs.Common.{◌≡◌, ◌≢◌, ◌≤◌, ◌⊎◌, IsSome, inl, inr, ℕ, Bool, true, false, cond, List, [], ◌∷◌, ◌++◌, Option, Some, None, Ok, Err, refl, ap, sym, ◌∙◌, subst}
+use Rattle.std.proofs.Common.{◌≡◌, ◌≢◌, ◌≤◌, ◌⊎◌, IsSome, inl, inr, ℕ, ◌+◌, Bool, true, false, cond, List, [], ◌∷◌, ◌++◌, Option, Some, None, Ok, Err, refl, ap, sym, ◌∙◌, subst}
 use Rattle.std.specs.Prelude.{IfSome, Result}
 use Rattle.std.proofs.lemmas.List.{append-nil}
 use Rattle.aip_text.specs.Lines.{lines_of}
@@ -150,3 +150,19 @@ judges_unopened (Some told) unread unwritten end still rose fine (inr by) = reco
   comes = subst (λ o. IfSome o (λ expected. unwritten × IsOrUnread expected unread end)) (sym by) (still, inl refl);
   only = λ is. by;
 }
+
+-- a core at its start over what a text gives
+pub opened_at : (told : Option (List ℕ)) (topo : Topology) (core : Kept) → IfSome told (λ text. topology_of text ≡ Ok topo) → is_built_topology topo ≡ true → StandsFor topo [] core
+    → IfSome told (λ text. IsOpened text core)
+opened_at None topo core given built stands = tt
+opened_at (Some text) topo core given built stands = record { topo = topo; given = given; built = built; stands = stands }
+
+-- a turn that goes on leads from what has come to what has come then
+pub went_on : (told now : Option (List ℕ)) (first core after : Kept) (number : ℕ) (lines next : List ℕ → List (List ℕ)) (start taken took : Option (List ℕ)) → now ≡ told
+    → IfSome told (λ text. (topo : Topology) → StandsFor topo [] first → HasCome topo core number (lines text) start taken (ran topo text))
+    → IfSome now (λ text. (topo : Topology) (from : Option (List ℕ)) (whole : Ran) → HasCome topo core number (lines text) from taken whole → HasCome topo after (number + 1) (next text) from took whole)
+    → IfSome told (λ text. (topo : Topology) → StandsFor topo [] first → HasCome topo after (number + 1) (next text) start took (ran topo text))
+went_on None now first core after number lines next start taken took same came turn = tt
+went_on (Some text) now first core after number lines next start taken took same came turn = λ topo stands.
+    subst (λ (o : Option (List ℕ)). IfSome o (λ t. (topo : Topology) (from : Option (List ℕ)) (whole : Ran) → HasCome topo core number (lines t) from taken whole → HasCome topo after (number + 1) (next t) from took whole)) same turn
+    topo start (ran topo text) (came topo stands)

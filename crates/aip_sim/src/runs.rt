@@ -4,6 +4,7 @@ ghost use Rattle.aip_io.specs.Causes.{Rose};
 ghost use Rattle.aip_io.specs.Lines.{new_lines, left_of};
 ghost use Rattle.aip_topo.specs.declared.topology.Topology.{Topology};
 ghost use Rattle.aip_rules.specs.Texts.{end_of, output_of, ran};
+ghost use Rattle.aip_rules.specs.Promises.{ForwardsAreJustified, GuardsAreSilent, HoldsOfRun, NoLeafSignsTwice};
 ghost use Rattle.aip_core.specs.StandsFor.{StandsFor};
 ghost use Rattle.aip_sim.specs.Causes.{HasCause, ReadsOnly};
 ghost use Rattle.aip_sim.specs.Ends.{gives_core, is_topology_refused, run_end_of};
@@ -84,6 +85,7 @@ fn play<S: Shelf, K: Sink>(
 /// It reads the topology first, and answers where that is refused. It then takes the schedule line by line: an input's
 /// lines are written before the next line is asked for, and a refused line ends the run with a refusal line. The core that
 /// the run ended with comes back exactly where the schedule was taken to its end or to a refused line.
+#[tactic(auto, using(crate::proofs::Promised::justified, crate::proofs::Promised::silent, crate::proofs::Promised::leaf_once))]
 pub fn run<S: Shelf, K: Sink>(
     alloc: Global,
     shelf: &mut S,
@@ -103,6 +105,11 @@ pub fn run<S: Shelf, K: Sink>(
     ensures core { is_some result.1 ≡ gives_core result.0 }
     ensures stands { IfSome result.1 (λ core. IfSome (S.text shelf.old topo.now) (λ topology. IfSome (S.text shelf.old sched.now) (λ schedule.
         StandsForRun topology schedule core))) }
+    // Whatever the answer, the trace of the two texts keeps what is promised: each forward of a checking router is justified,
+    // guards are silent, and no leaf signs twice.
+    ensures justified { IfSome (S.text shelf.old topo.now) (λ topology. IfSome (S.text shelf.old sched.now) (HoldsOfRun ForwardsAreJustified topology)) }
+    ensures silent { IfSome (S.text shelf.old topo.now) (λ topology. IfSome (S.text shelf.old sched.now) (HoldsOfRun GuardsAreSilent topology)) }
+    ensures leaf_once { IfSome (S.text shelf.old topo.now) (λ topology. IfSome (S.text shelf.old sched.now) (HoldsOfRun NoLeafSignsTwice topology)) }
     // A fault comes only where the count of one of the two files, or of the sink, rose, and no count rises at another answer.
     ensures counts { ReadsOnly (λ name. (name ≡ topo.now) ⊎ (name ≡ sched.now)) (result.0 ≡ RunEnd.ReadFault)
         (S.text shelf.old) (S.faults shelf.old) (S.faults shelf.new) }

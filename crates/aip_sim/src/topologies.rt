@@ -2,13 +2,13 @@
 ghost use Rattle.std.specs.Prelude.{◌≡◌, ◌≢◌, ℕ, List, take, Err, IfSome, IfOk, IsErrOf};
 ghost use Rattle.aip_topo.specs.Reading.{topology_of};
 ghost use Rattle.aip_topo.specs.Sound.{IsSound};
-ghost use Rattle.aip_rules.specs.Texts.{is_open, is_plain, is_built_topology};
+ghost use Rattle.aip_rules.specs.Texts.{is_plain, is_built_topology};
 ghost use Rattle.std.specs.List.{list_all};
 ghost use Rattle.aip_sim.specs.Causes.{ReadsOnly};
 ghost use Rattle.aip_sim.specs.Topologies.{IsReadOf};
 
 use aip_io::{ReadEnd, Shelf, read_all};
-use aip_topo::{MOST_READ, Part, Router, TopoEnd, TopoFault, Topology};
+use aip_topo::{MOST_READ, Part, TopoEnd, TopoFault, Topology};
 use std::alloc::Global;
 
 /// Why no topology could be read.
@@ -84,12 +84,6 @@ pub fn read_topology<S: Shelf>(
     topology_in(alloc, &text)
 }
 
-fn are_open(routers: &[Router]) -> bool
-    ensures { result ≡ list_all is_open routers.now }
-{
-    routers.iter().all(|router| !router.checking)
-}
-
 fn is_plain(part: &Part) -> bool
     ensures { result ≡ is_plain part.now }
 {
@@ -109,5 +103,5 @@ fn are_plain(parts: &[Part]) -> bool
 pub fn is_built(topology: &Topology) -> bool
     ensures { result ≡ is_built_topology topology.now }
 {
-    are_open(topology.routers.as_slice()) && are_plain(topology.parts.as_slice())
+    are_plain(topology.parts.as_slice())
 }

@@ -30,14 +30,7 @@ pub enum Turn {
 fn is_built(input: &Input) -> bool
     ensures { result ≡ is_built input.now }
 {
-    matches!(
-        input,
-        Input::Tick { .. }
-            | Input::Send { .. }
-            | Input::Deliver { .. }
-            | Input::Cut { .. }
-            | Input::Mend { .. }
-    )
+    !matches!(input, Input::Publish { .. })
 }
 
 // Ends the run at a refused line, whose refusal line is written.

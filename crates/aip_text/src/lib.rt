@@ -3,6 +3,14 @@
 //! A text is lines, each ended by a line feed. A line is words with one space between them. Each
 //! value has one spelling: a number is decimal without a leading zero, bytes are pairs of hex digits
 //! in lower case. A reader takes just that spelling, and a writer appends it.
+//!
+//! ```text
+//! if let Some(number) = read_number(b"600") {
+//!     push_word(&mut line, b"tick")?;
+//!     push_space(&mut line)?;
+//!     push_number(&mut line, number)?;
+//! }
+//! ```
 #![tactic(auto)]
 
 mod fields;

@@ -1,6 +1,7 @@
 // The top call, and the commands that it obeys.
 ghost use Rattle.std.specs.Prelude.{◌≡◌, ◌↔◌, ◌⊎◌, None, true, false, is_some, IfSome};
 ghost use Rattle.aip_io.specs.Causes.{Rose};
+ghost use Rattle.aip_rules.specs.Promises.{ForwardsAreJustified, GuardsAreSilent, HoldsOfRun, NoLeafSignsTwice};
 ghost use Rattle.aip_sim.specs.Causes.{HasCause, ReadsOnly};
 ghost use Rattle.aip_top.specs.Commands.{AddressOf, KeepsLeases, LeaseOf, RunOf};
 ghost use Rattle.aip_top.specs.Judged.{end_by, Judges};
@@ -24,6 +25,7 @@ use std::alloc::Global;
 /// `run TOPO SCHED` writes the trace of the schedule over the topology, and a refusal line where a line of the schedule is
 /// refused. `address TOPO` writes the addresses of the domains, routers and hosts. `lease TOPO DOMAIN` formats the disk as
 /// the lease file of the domain's key, unless it is a lease file already, and writes the key's identifier and height.
+#[tactic(auto, using(crate::proofs::Promised::justified, crate::proofs::Promised::silent, crate::proofs::Promised::leaf_once))]
 pub fn aip<S: Shelf, K: Sink, D: Disk>(
     alloc: Global,
     words: &[String],
@@ -59,6 +61,12 @@ pub fn aip<S: Shelf, K: Sink, D: Disk>(
         (Rose (S.faults shelf.old files.topology) (S.faults shelf.new files.topology)
         ⊎ Rose (S.faults shelf.old files.schedule) (S.faults shelf.new files.schedule))
         (Rose (K.faults out.old) (K.faults out.new)) result.0 result.2 (K.taken out.old) (K.taken out.new))) }
+    // Whatever the answer, the trace that the rules give for the two files of a run keeps what is promised: every packet that a
+    // checking router forwarded, challenges excepted, has one of the four causes in earlier events; a guarded host withholds
+    // exactly its packets under a shut-off in force; and no leaf signs twice.
+    ensures justified { OfRun (spelled words.now) (λ files. OfTexts (S.text shelf.old) files (HoldsOfRun ForwardsAreJustified)) }
+    ensures silent { OfRun (spelled words.now) (λ files. OfTexts (S.text shelf.old) files (HoldsOfRun GuardsAreSilent)) }
+    ensures leaf_once { OfRun (spelled words.now) (λ files. OfTexts (S.text shelf.old) files (HoldsOfRun NoLeafSignsTwice)) }
     ensures address { OfAddress (spelled words.now) (λ name. IfSome (S.text shelf.old name) (λ told. AddressOf told
         (Rose (S.faults shelf.old name) (S.faults shelf.new name))
         (Rose (K.faults out.old) (K.faults out.new)) result.0 (K.taken out.old) (K.taken out.new))) }

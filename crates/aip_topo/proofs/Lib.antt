@@ -6,7 +6,7 @@ mod Keys
 mod Shown
 mod Running
 mod Meeting
-mod Soundness
+pub mod Soundness
 mod CanonNodes
 mod Canon
 mod Decided

@@ -21,15 +21,34 @@ new_disk_is_ready id height size =
     let rest = length-append id (height ∷ replicate (2 ^ height) 0) in
     record { unlisted = refl; unmet = refl; within = (omega arith, (omega arith, (omega arith, tt))); entries = omega arith; bytes = omega arith }
 
+-- A format of a new disk with room for the lease file is served. It leaves nothing pending, no stop armed and no call listed.
+pub formatted_new_disk : (id : List ℕ) (height : ℕ) (served : Bool) (new : DiskState) → length id ≡ 16 → Ran Leads (new_disk (file_size height) []) (format_calls id height []) served new
+    → (served ≡ true) × (is_pending new.past ≡ false) × (new.stop ≡ Unarmed) × (new.failing ≡ []) × (new.room ≡ file_size height)
+formatted_new_disk id height served new size ran =
+    let disk = new_disk (file_size height) [] in
+    let falls = falls_at_stop disk (format_calls id height []) (new_disk_is_ready id height size) in
+    let is = ran_is disk (format_calls id height []) served new ran in (
+      is.0 ∙ falls.answer,
+      ap (λ (d : DiskState). is_pending d.past) is.1 ∙ ap is_pending falls.past,
+      ap (λ (d : DiskState). d.stop) is.1 ∙ falls.stop,
+      ap (λ (d : DiskState). d.failing) is.1 ∙ falls.failing,
+      ap (λ (d : DiskState). d.room) is.1 ∙ falls.room,
+    )
+
 -- A lease on a disk that is ready for it, has nothing pending and stops at its first or second call is not served, and
 -- the restart leaves the byte of the stop in the place of the leaf's and all else as it was.
 pub stopped_lease : (disk new : DiskState) (leaf call fill : ℕ) (served : Bool) → IsReadyFor (lease_calls leaf) disk → is_pending disk.past ≡ false → head_size + leaf < length (content_of disk.base disk.past)
     → disk.stop ≡ Armed call fill → 1 ≤ call → call ≤ 2 → Ran Leads disk (lease_calls leaf) served new
-    → (served ≡ false) × ((restarted new).base ≡ overwritten (content_of disk.base disk.past) (head_size + leaf) (fill ∷ []))
+    → (served ≡ false) × ((restarted new).base ≡ overwritten (content_of disk.base disk.past) (head_size + leaf) (fill ∷ [])) × (new.failing ≡ []) × (new.room ≡ disk.room)
 stopped_lease disk new leaf call fill served ready still there armed first last ran =
     let ends = firm_write_stops disk (head_size + leaf) (1 ∷ []) call fill ready still (omega arith) armed first last in
-    let is = ran_is disk (lease_calls leaf) served new ran in
-    (is.0 ∙ ends.0, ap (λ d. (restarted d).base) is.1 ∙ ends.1)
+    let falls = falls_at_stop disk (lease_calls leaf) ready in
+    let is = ran_is disk (lease_calls leaf) served new ran in (
+      is.0 ∙ ends.0,
+      ap (λ d. (restarted d).base) is.1 ∙ ends.1,
+      ap (λ (d : DiskState). d.failing) is.1 ∙ falls.failing ∙ ready.unlisted,
+      ap (λ (d : DiskState). d.room) is.1 ∙ falls.room,
+    )
 
 -- A lease on a disk that is ready for it and stops at neither of its calls is served, and leaves nothing pending.
 pub served_lease : (disk new : DiskState) (leaf : ℕ) (served : Bool) → IsReadyFor (lease_calls leaf) disk → stops_within 2 disk.stop ≡ false → Ran Leads disk (lease_calls leaf) served new

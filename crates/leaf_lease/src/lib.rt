@@ -2,6 +2,13 @@
 //!
 //! A lease file has a gate (0xa5 is open), the 16 bytes of the key's identifier, its height, and a byte for each leaf:
 //! 0 is free, and anything else is gone. What stands past the last leaf is ignored.
+//!
+//! ```text
+//! let disk = format(disk, id, 5)?;
+//! let leases = open(disk, id, 5)?;
+//! let (leases, lease) = leases.lease()?;
+//! let leaf = lease.spend();
+//! ```
 #![tactic(auto)]
 
 mod formatting;

@@ -1,4 +1,11 @@
 //! A disk as a program sees it that must survive a crash: what a read gives, and what a crash may leave.
+//!
+//! ```text
+//! disk.write_at(18, &[1])?;
+//! // a crash here may leave any byte at 18
+//! disk.sync()?;
+//! // and here it leaves what a read gives
+//! ```
 #![tactic(auto)]
 
 mod content;

@@ -3,6 +3,13 @@
 //! A private key is a secret SEED of 32 bytes, an identifier I of 16 bytes and the number q of a leaf; it may sign one
 //! message. `public` gives its public key K, `sign` a signature, and `candidate` the key that a signature leads to:
 //! the signature is valid exactly where that is K. All numbers are written high byte first.
+//!
+//! ```text
+//! let key = public(Width::W4, &seed, &id, 0);
+//! let mut signature = [0; 2180];
+//! sign(Width::W4, &seed, &id, 0, b"text", &mut signature);
+//! let is_valid = candidate(&id, 0, b"text", &signature) == Some(key);
+//! ```
 #![tactic(auto)]
 
 ghost use Rattle.std.specs.Prelude.{◌≡◌, ◌+◌, ◌≤◌, ◌++◌, length, take, Some};

@@ -3,6 +3,13 @@
 //! A private key is a secret seed of 32 bytes with the width of its one-time signatures and the height of its tree.
 //! `Tree::build` makes it, `Tree::sign` signs under one of its leaves, and `verify` tells whether a signature is valid
 //! under a `PublicKey`. All numbers are written high byte first.
+//!
+//! ```text
+//! let tree = Tree::build(alloc, &seed, Width::W4, Height::H5)?;
+//! let mut signature = vec![in alloc; 0; signature_len(tree.width(), tree.height())]?;
+//! tree.sign(0, b"text", &mut signature);
+//! let is_valid = verify(&tree.public(), b"text", &signature);
+//! ```
 #![tactic(auto)]
 
 pub use height::{Height, signature_len};

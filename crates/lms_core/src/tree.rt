@@ -56,6 +56,19 @@ impl Tree {
         })
     }
 
+    /// A second tree of the same key, without computing a node again. The only error is want of memory.
+    pub fn try_clone(&self, alloc: Global) -> Result<Tree, AllocError>
+        ensures { IfOk result (λ tree. tree ≡ self.now) }
+    {
+        Ok(Tree {
+            seed: self.seed,
+            width: self.width,
+            height: self.height,
+            id: self.id,
+            nodes: Vec::from_slice(alloc, &self.nodes)?,
+        })
+    }
+
     /// The public key, under which the signatures of this tree are valid.
     pub fn public(&self) -> PublicKey
         ensures { result ≡ public_key_of self.now }

@@ -1,13 +1,13 @@
 -- What the writes of a format do to a file.
-use Rattle.std.proofs.Common.{◌≡◌, ◌⊎◌, inl, inr, ℕ, Bool, true, false, get_or, suc, ◌+◌, ◌-◌, ◌*◌, ◌≤◌, max, List, [], ◌∷◌, ◌++◌, length, take, drop, replicate, refl, sym, ◌∙◌, ap, arith}
+use Rattle.std.proofs.Common.{◌≡◌, ◌⊎◌, inl, inr, ℕ, Bool, true, false, suc, ◌+◌, ◌-◌, ◌*◌, ◌≤◌, max, List, [], ◌∷◌, ◌++◌, length, take, drop, replicate, refl, sym, ◌∙◌, ap, arith}
 use Rattle.std.specs.Prelude.{Option, Some, None, option_map, unwrap_or, Result, Ok, Err, OnOk}
-use Rattle.std.proofs.lemmas.List.{drop-drop, get_or-drop, length-replicate, take_at}
+use Rattle.std.proofs.lemmas.List.{drop-drop, length-replicate, take_at}
 use Rattle.std.proofs.lemmas.Bool.Decides.{nat_tests}
 use Rattle.lease_disk.specs.Images.{overwritten, AtEachMoment}
 use Rattle.lease_disk.specs.Kept.{AfterWrite, WhileGated, gated}
 use Rattle.lease_disk.specs.Moments.{joined, weakened}
 use Rattle.lease_disk.specs.PastLaws.{length-overwritten}
-use Rattle.shutoff_filter.specs.FilterFile.{IsOpen, file_size, is_open, kept_room, open_gate}
+use Rattle.shutoff_filter.specs.FilterFile.{IsOpen, file_size, is_open, open_gate}
 use Rattle.shutoff_filter.specs.Format.{formatted, fresh_file, fresh_rest}
 
 pub some_same : (a b : List ℕ) → ◌≡◌ {A = Option (List ℕ)} (Some a) (Some b) → a ≡ b
@@ -37,13 +37,6 @@ closed_is file closed = elim (bool_cases (is_open file)) [
   | inl opened ↦ absurd (closed (record { there = grind (arith, nat_tests); gate = grind (arith, nat_tests) }))
   | inr is ↦ is
 ]
-
--- files that begin with the same bytes keep the same room
-pub room_same : (a b : List ℕ) → get_or a 1 0 ≡ get_or b 1 0 → get_or a 2 0 ≡ get_or b 2 0 → kept_room a ≡ kept_room b
-room_same a b one two =
-    let here : get_or (drop 1 a) 0 0 ≡ get_or (drop 1 b) 0 0 = get_or-drop 1 a 0 0 ∙ one ∙ sym (get_or-drop 1 b 0 0) in
-    let there : get_or (drop 1 a) 1 0 ≡ get_or (drop 1 b) 1 0 = get_or-drop 1 a 1 0 ∙ two ∙ sym (get_or-drop 1 b 1 0) in
-    rw (here, there) refl
 
 -- how much stands past the gate
 pub length-fresh_rest : (room : ℕ) → 1 + length (fresh_rest room) ≡ file_size room

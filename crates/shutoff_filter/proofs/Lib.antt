@@ -1,4 +1,7 @@
+mod Counts
 mod Fresh
-mod Places
+mod Held
+mod Placed
 mod Shown
+mod Spares
 mod Verdicts

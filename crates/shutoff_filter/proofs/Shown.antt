@@ -3,8 +3,7 @@ use Rattle.std.proofs.Common.{◌≡◌, ℕ, ◌+◌, ◌<◌, ◌≤◌, List,
 use Rattle.lease_disk.specs.Shows.{Shows}
 use Rattle.shutoff_filter.specs.FilterFile.{IsFilter, IsFilterOf, IsOpen, file_size, kept_room, slot_at, slot_in}
 use Rattle.shutoff_filter.specs.declared.slots.Slot.{Slot}
-use Rattle.shutoff_filter.proofs.Fresh.{room_same}
-use Rattle.shutoff_filter.proofs.Places.{slot_same}
+use Rattle.shutoff_filter.specs.Places.{room_same, slot_same}
 
 module _ (file bytes : List ℕ) (count : ℕ) (shows : Shows file bytes count) where
   pub front_open : 3 ≤ count → get_or bytes 0 0 ≡ 165 → IsOpen file

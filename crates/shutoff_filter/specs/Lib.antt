@@ -1,7 +1,16 @@
 pub mod Body
+pub mod Entries
 pub mod FilterFile
 pub mod Format
 pub mod Fronts
+pub mod ImageLaws
+pub mod InForce
 pub mod Judged
+pub mod Keeping
+pub mod Opened
+pub mod Places
+pub mod SlotLaws
 pub mod Slots
+pub mod Spare
+pub mod Stops
 pub mod Store

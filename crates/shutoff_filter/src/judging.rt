@@ -4,7 +4,8 @@ ghost use Rattle.aip_frame.specs.Frame.{frame_of};
 ghost use Rattle.aip_frame.specs.declared.frame.Kind.TheVariants as kind;
 ghost use Rattle.lms_core.specs.Verify.{is_valid_signature};
 ghost use Rattle.shutoff_filter.specs.Body.{order_in, signature_in};
-ghost use Rattle.shutoff_filter.specs.Judged.{body_verdict, order_verdict, refusal_number, shutoff_verdict};
+ghost use Rattle.shutoff_filter.specs.Entries.{entries_of};
+ghost use Rattle.shutoff_filter.specs.Judged.{body_verdict, is_full, is_in_log, order_verdict, refusal_number, shutoff_verdict};
 
 use crate::bodies::{Order, SHORTEST, order_in, shutoff_text};
 use crate::slots::{Slots, others_in_force};
@@ -62,7 +63,8 @@ pub fn judge(slots: &Slots, log: &SentLog, frame: &[u8], now: u64) -> Heard
     requires frame { IsSome (frame_of frame.now) }
     requires shutoff { IfSome (frame_of frame.now) (λ f. f.kind ≡ kind.ShutOff) }
     ensures { IfSome (frame_of frame.now) (λ f. result
-        ≡ shutoff_verdict slots.now.room slots.now.slots.items log.now.frames now f) }
+        ≡ shutoff_verdict now f (is_in_log log.now.frames f.from (order_in f.body))
+        (is_full slots.now.room now f.from (entries_of slots.now.slots.items))) }
 {
     let body = body_of(frame);
     if body.len() < SHORTEST {
@@ -82,7 +84,8 @@ fn judge_body(
 ) -> Heard
     requires soon { now < 2 ^ 48 }
     requires long { 100 ≤ length body.now }
-    ensures { result ≡ body_verdict slots.now.room slots.now.slots.items log.now.frames now from.now to.now body.now }
+    ensures { result ≡ body_verdict now from.now to.now body.now (is_in_log log.now.frames from.now (order_in body.now))
+        (is_full slots.now.room now from.now (entries_of slots.now.slots.items)) }
 {
     judge_order(
         slots,
@@ -107,7 +110,8 @@ fn judge_order(
 ) -> Heard
     requires soon { now < 2 ^ 48 }
     ensures { result
-        ≡ order_verdict slots.now.room slots.now.slots.items log.now.frames now from.now to.now order.now signature.now }
+        ≡ order_verdict now from.now to.now order.now signature.now (is_in_log log.now.frames from.now order.now)
+        (is_full slots.now.room now from.now (entries_of slots.now.slots.items)) }
 {
     if !owns(&order.key, &from.eid) {
         return Heard::Key;

@@ -1,6 +1,7 @@
 // How a filter file is laid out.
 ghost use Rattle.std.specs.Prelude.{◌≡◌, ◌≤◌, length, take};
-ghost use Rattle.shutoff_filter.specs.FilterFile.{file_size, kept_room, slot_of};
+ghost use Rattle.shutoff_filter.specs.FilterFile.{file_size, kept_room, slot_of, slot_start};
+ghost use Rattle.shutoff_filter.specs.Keeping.{entry_bytes};
 
 use crate::slots::Slot;
 use aip_addr::KeyId;
@@ -33,6 +34,26 @@ pub fn room_in(bytes: &[u8]) -> u16
     ensures { result ≡ kept_room bytes.now }
 {
     BigEndian::read_u16(&bytes[1..])
+}
+
+/// The byte at which the slot of that number begins.
+pub fn slot_start(number: u16) -> u64
+    requires { number ≤ 256 }
+    ensures { result ≡ slot_start number }
+{
+    HEAD as u64 + SLOT as u64 * number as u64
+}
+
+/// The 27 bytes of an entry past its slot's gate.
+pub fn entry_bytes(to: &KeyId, until: u64) -> [u8; 27]
+    ensures bytes { result ≡ entry_bytes to.now until }
+    ensures key { length to.now.bytes ≡ 19 }
+{
+    let mut bytes = [0; 27];
+    let (key_part, until_part) = bytes.split_at_mut(19);
+    key_part.copy_from_slice(&to.bytes);
+    until_part.copy_from_slice(&until.to_be_bytes());
+    bytes
 }
 
 fn key_id_at(body: &[u8]) -> KeyId

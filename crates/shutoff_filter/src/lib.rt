@@ -4,29 +4,39 @@
 //! it before. A filter has room for some key identifiers in force, and one slot more than that.
 //!
 //! ```text
-//! let store = FilterStore::open(format_store(disk, 8)?, Slots::new(alloc, 8)?)?;
+//! let mut store = FilterStore::open(format_store(disk, 8)?, Slots::new(alloc, 8)?)?;
 //! if let Heard::Obeyed { until } = store.judge(&log, frame, now) {
-//!     // The sender of the frame is in force until then.
+//!     // The sender of the frame is in force until then, also after a crash.
+//!     store = store.ready(now)?.keep(&sender, until, now)?;
 //! }
 //! ```
 #![tactic(auto)]
 
 mod bodies;
+mod entries;
 mod formatting;
+mod in_force;
 mod judgement;
 mod judging;
+mod keeping;
 mod layout;
 mod opening;
 mod slots;
+mod spare;
 mod store;
+mod writing;
 
 pub use aip_addr::Memory;
 pub use bodies::{shutoff_body, shutoff_text};
+pub use entries::Entry;
 pub use formatting::{StoreFormatEnd, format_store};
 pub use judging::Heard;
+pub use keeping::KeepEnd;
 pub use opening::StoreEnd;
 pub use slots::Slots;
 pub use store::FilterStore;
 
+#[cfg(test)]
+mod store_tests;
 #[cfg(test)]
 mod tests;

@@ -1,8 +1,10 @@
 // The slots of a filter in memory.
-ghost use Rattle.std.specs.Prelude.{◌≡◌, ◌≤◌, ◌+◌, ◌∷◌, IfOk, length, replicate, vec_capacity};
+ghost use Rattle.std.specs.Prelude.{◌≡◌, ◌≤◌, ◌+◌, ◌∷◌, IfOk, length, replicate, slice_set, vec_capacity};
 ghost use Rattle.std.specs.List.{list_any};
-ghost use Rattle.shutoff_filter.specs.Slots.{closed_slot, fresh_slots, holds, is_withheld, others_in_force};
+ghost use Rattle.shutoff_filter.specs.Entries.{entries_of, entry_of, is_covered, is_withheld, others_in_force};
+ghost use Rattle.shutoff_filter.specs.Slots.{closed_slot, counts, covers, fresh_slots, holds};
 
+use crate::entries::Entry;
 use aip_addr::{KeyId, Memory};
 use std::alloc::Global;
 
@@ -23,6 +25,16 @@ impl Slot {
         ensures { result ≡ holds now to.now self.now }
     {
         self.is_open && self.to == *to && now < self.until
+    }
+
+    /// Its entry, where it is open.
+    pub fn entry(&self) -> Entry
+        ensures { result ≡ entry_of self.now }
+    {
+        Entry {
+            to: self.to,
+            until: self.until,
+        }
     }
 }
 
@@ -56,23 +68,70 @@ impl Slots {
     }
 }
 
-/// Whether some slot withholds the key identifier at a time.
-pub fn is_withheld(slots: &[Slot], to: &KeyId, now: u64) -> bool
-    ensures { result ≡ is_withheld now to.now slots.now }
+/// Puts a slot in the place of the one of that number.
+pub fn put_slot(slots: &mut Slots, number: u16, slot: Slot)
+    requires { number ≤ slots.old.room }
+    ensures room { slots.new.room ≡ slots.old.room }
+    ensures slots { slots.new.slots.items ≡ slice_set slots.old.slots.items number slot }
+{
+    slots.slots[number as usize] = slot;
+}
+
+// Whether some slot holds the key identifier at a time.
+fn any_holds(slots: &[Slot], to: &KeyId, now: u64) -> bool
+    ensures { result ≡ list_any (holds now to.now) slots.now }
 {
     slots.iter().any(|slot| slot.holds(to, now))
 }
 
+/// Whether some slot withholds the key identifier at a time.
+#[tactic(auto, using(crate::specs::SlotLaws::any_holds))]
+pub fn is_withheld(slots: &[Slot], to: &KeyId, now: u64) -> bool
+    ensures { result ≡ is_withheld now to.now (entries_of slots.now) }
+{
+    any_holds(slots, to, now)
+}
+
+// Whether the slot has an entry of the key identifier that lasts at least until then.
+fn covers(slot: &Slot, to: &KeyId, until: u64) -> bool
+    ensures { result ≡ covers until to.now slot.now }
+{
+    slot.is_open && slot.to == *to && until <= slot.until
+}
+
+// Whether some slot does.
+fn any_covers(slots: &[Slot], to: &KeyId, until: u64) -> bool
+    ensures { result ≡ list_any (covers until to.now) slots.now }
+{
+    slots.iter().any(|slot| covers(slot, to, until))
+}
+
+/// Whether some entry of the key identifier lasts at least until then.
+#[tactic(auto, using(crate::proofs::Counts::any_covers))]
+pub fn is_covered(slots: &[Slot], to: &KeyId, until: u64) -> bool
+    ensures { result ≡ is_covered until to.now (entries_of slots.now) }
+{
+    any_covers(slots, to, until)
+}
+
+// Whether the slot withholds a key identifier other than this one, which no later slot withholds.
+fn counts(slot: &Slot, later: &[Slot], to: &KeyId, now: u64) -> bool
+    ensures { result ≡ counts now to.now slot.now later.now }
+{
+    slot.holds(&slot.to, now) && slot.to != *to && !is_withheld(later, &slot.to, now)
+}
+
 /// How many key identifiers other than this one are in force.
+#[tactic(auto, using(crate::proofs::Counts::others_slots))]
 pub fn others_in_force(slots: &[Slot], to: &KeyId, now: u64) -> usize
-    ensures count { result ≡ others_in_force now to.now slots.now }
+    ensures count { result ≡ others_in_force now to.now (entries_of slots.now) }
     ensures fits { result ≤ length slots.now }
 {
     match slots {
         [] => 0,
-        [slot, rest @ ..] => {
-            let others = others_in_force(rest, to, now);
-            if slot.holds(&slot.to, now) && slot.to != *to && !is_withheld(rest, &slot.to, now) {
+        [slot, later @ ..] => {
+            let others = others_in_force(later, to, now);
+            if counts(slot, later, to, now) {
                 others + 1
             } else {
                 others

@@ -1,5 +1,5 @@
 use Rattle.std.proofs.Common.{sym, ◌∙◌, arith}
-use Rattle.shutoff_filter.proofs.Fresh.{room_same}
+use Rattle.shutoff_filter.specs.Places.{room_same}
 use Rattle.shutoff_filter.proofs.formatting.front_of.Goals as goal
 
 pub returns : goal.returns

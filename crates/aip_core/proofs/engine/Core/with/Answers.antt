@@ -1,10 +1,15 @@
-use Rattle.std.proofs.Common.{◌≡◌, ◌≤◌, ◌++◌, length, ap, sym, subst, arith}
+use Rattle.std.proofs.Common.{◌≡◌, ◌≤◌, ◌++◌, ◌∙◌, ◌+◌, List, length, ap, sym, subst, arith}
+use Rattle.std.specs.Prelude.{All}
 use Rattle.std.proofs.lemmas.List.{length-append}
 use Rattle.aip_rules.specs.State.{ticks_of}
 use Rattle.aip_rules.specs.Reaction.{in_put}
 use Rattle.aip_core.specs.Kept.{Kept}
+use Rattle.aip_core.specs.Moves.{routers_with}
+use Rattle.aip_core.specs.Rooms.{IsBootedUpTo}
+use Rattle.aip_core.specs.RouterMachine.{RouterState}
 use Rattle.aip_core.specs.Wiring.{Wired, IsWiringOf}
 use Rattle.aip_core.proofs.Modest.{in_put_one}
+use Rattle.aip_core.proofs.Accepted.{boots_with, count_with}
 use Rattle.aip_core.proofs.engine.Core.with.Goals as goal
 
 pub invariant_of-core : goal.invariant_of-core
@@ -20,7 +25,13 @@ invariant_of-core c =
       sound = c.self.invariant.sound;
       wired = subst (λ (w : Wired). IsWiringOf c.self.inside.directory w) (sym c.linked.ensures)
           (record { domains = c.self.invariant.wired.domains; rows = c.self.invariant.wired.rows; leads = c.self.invariant.wired.leads });
+      hosts = c.self.invariant.hosts;
+      routers =
+          ap (λ (ss : List RouterState). length ss) c.started-routers.ensures ∙ count_with c.self.inside.directory c.args.input.now c.self.inside.routers.items
+          ∙ c.self.invariant.routers;
       early = omega arith;
       few = omega arith;
       put = omega (arith, length-append c.self.inside.flights (in_put c.args.reaction.put), in_put_one c.args.reaction.put);
+      boots = subst (λ (ss : List RouterState). All (IsBootedUpTo (c.self.inside.inputs + 1)) ss) (sym c.started-routers.ensures)
+          (boots_with c.self.inside.inputs c.self.inside.directory c.args.input.now c.self.inside.routers.items c.self.invariant.boots);
     }

@@ -8,5 +8,6 @@ pub invariant_of-result-2 : goal.invariant_of-result-2
 invariant_of-result-2 c = record {
   sound = subst (λ (es : List Edge). IsSound c.self.inside.graph.domains.items es) (sym c.relinked-edges.ensures)
       (sound_with c.self.inside.graph.domains.items c.self.inside.graph.edges.items c.args.link c.args.up c.self.invariant.sound);
+  short = c.self.invariant.short;
   routes = c.new-routes.ensures c.self.inside.graph.domains.items c.relinked-edges.result.items;
 }

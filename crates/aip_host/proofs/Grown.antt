@@ -1,0 +1,141 @@
+-- What stands for a host on a trace with further events.
+use Rattle.std.proofs.Common.{◌≡◌, ℕ, max, Bool, true, false, if◌then◌else◌, List, [], ◌∷◌, ◌++◌, take, refl, sym, ◌∙◌, ap, Option, Some, None}
+use Rattle.std.specs.List.{AllByRecursion}
+use Rattle.std.proofs.Math.Nat.{zero-max}
+use Rattle.aip_frame.specs.declared.frame.Frame.{Frame}
+use Rattle.aip_frame.specs.Frame.{frame_of}
+use Rattle.aip_event.specs.declared.event.Event.{Event}
+use Rattle.aip_event.specs.declared.input.Input.{Input}
+use Rattle.aip_event.specs.declared.input.Input.TheVariants.{Tick, Send, Raw, Deliver, Inject, Cut, Mend, Shutoff, Restart, Stop, Halt, Publish}
+use Rattle.sent_log.specs.Log as log
+use Rattle.sent_log.specs.declared.log.Noted.{Noted}
+use Rattle.sent_log.proofs.Standing.{still_stands}
+use Rattle.aip_rules.specs.declared.Arming.{Arming}
+use Rattle.aip_rules.specs.declared.Entry.{Entry}
+use Rattle.aip_rules.specs.declared.Entry.TheVariants.{Taken, Happened}
+use Rattle.aip_rules.specs.declared.Flight.{Flight}
+use Rattle.aip_rules.specs.Reaction.{put_event}
+use Rattle.aip_rules.specs.State.{is_down, is_fall_of, is_restart_of, armed_stop, is_stop_of, stop_after_input}
+use Rattle.aip_rules.specs.Standing.{acts, lets_act, frames_put, noted_of, noted_in, next_leaf, past_leaf, told_to, told_in}
+use Rattle.aip_rules.specs.Step.{with_events}
+use Rattle.aip_host.specs.After.{IsQuiet, with_noted, logged, next_past, stop_past, down_past}
+
+-- ---- further events
+
+-- the next leaf after further events
+pub next_with : (events : List Event) (tr : List Entry) (name : List ℕ) → next_leaf (with_events events tr) name ≡ next_past events name (next_leaf tr name)
+next_with [] tr name = refl
+next_with (event ∷ events) tr name = next_with events (Happened event ∷ tr) name
+
+-- the stop that is armed after further events
+pub stop_with : (events : List Event) (tr : List Entry) (name : List ℕ) → armed_stop (with_events events tr) name ≡ stop_past events name (armed_stop tr name)
+stop_with [] tr name = refl
+stop_with (event ∷ events) tr name = stop_with events (Happened event ∷ tr) name
+
+-- whether a host is down after further events
+pub down_with : (events : List Event) (tr : List Entry) (name : List ℕ) → is_down (with_events events tr) name ≡ down_past events name (is_down tr name)
+down_with [] tr name = refl
+down_with (event ∷ events) tr name = down_with events (Happened event ∷ tr) name
+
+-- where a host is up after further events, it was up before
+pub up_before : (events : List Event) (name : List ℕ) (down : Bool) → down_past events name down ≡ false → down ≡ false
+up_before [] name down up = up
+up_before (event ∷ events) name down up = unless (is_fall_of event name) (up_before events name (if is_fall_of event name then true else down) up)
+  where
+    unless : (fall : Bool) → (if fall then true else down) ≡ false → down ≡ false
+    unless true h = absurd cc
+    unless false h = h
+
+-- ---- a flight behind the events
+
+pub next_put : (events : List Event) (number : ℕ) (put : Option Flight) (name : List ℕ) (next : ℕ) → next_past (events ++ put_event number put) name next ≡ next_past events name next
+next_put [] number None name next = refl
+next_put [] number (Some flight) name next = zero-max next
+next_put (event ∷ events) number put name next = next_put events number put name (max (past_leaf event name) next)
+
+pub stop_put : (events : List Event) (number : ℕ) (put : Option Flight) (name : List ℕ) (stop : Option Arming) → stop_past (events ++ put_event number put) name stop ≡ stop_past events name stop
+stop_put [] number None name stop = refl
+stop_put [] number (Some flight) name stop = refl
+stop_put (event ∷ events) number put name stop = stop_put events number put name (if is_stop_of event name then None else stop)
+
+pub down_put : (events : List Event) (number : ℕ) (put : Option Flight) (name : List ℕ) (down : Bool) → down_past (events ++ put_event number put) name down ≡ down_past events name down
+down_put [] number None name down = refl
+down_put [] number (Some flight) name down = refl
+down_put (event ∷ events) number put name down = down_put events number put name (if is_fall_of event name then true else down)
+
+-- quiet events with a flight behind them tell nothing
+pub told_put : (events : List Event) (number : ℕ) (put : Option Flight) (tr : List Entry) (name : List ℕ) → AllByRecursion (λ event. IsQuiet event name) events
+    → told_to (with_events (events ++ put_event number put) tr) name ≡ told_to tr name
+told_put [] number None tr name quiet = refl
+told_put [] number (Some flight) tr name quiet = refl
+told_put (event ∷ events) number put tr name quiet =
+    told_put events number put (Happened event ∷ tr) name quiet.1 ∙ ap (λ told. told ++ told_to tr name) quiet.0.told
+
+-- what is noted of a flight that is put
+abbrev pub noted_put : Option Flight → List Noted
+noted_put None = []
+noted_put (Some flight) = noted_of (frame_of flight.bytes)
+
+-- a choice between two that are the same
+same_choice : (test : Bool) (noted frames : List Noted) → noted ≡ [] → (if test then noted ++ frames else frames) ≡ frames
+same_choice true noted frames none = ap (λ ns. ns ++ frames) none
+same_choice false noted frames none = refl
+
+-- of quiet events with a flight behind them, the flight alone is noted
+pub frames_with_put : (events : List Event) (number : ℕ) (put : Option Flight) (tr : List Entry) (name : List ℕ) → AllByRecursion (λ event. IsQuiet event name) events → acts tr name ≡ true
+    → frames_put (with_events (events ++ put_event number put) tr) name ≡ noted_put put ++ frames_put tr name
+frames_with_put [] number None tr name quiet acting = refl
+frames_with_put [] number (Some flight) tr name quiet acting = rw acting refl
+frames_with_put (event ∷ events) number put tr name quiet acting =
+    frames_with_put events number put (Happened event ∷ tr) name quiet.1 acting
+    ∙ ap (λ fs. noted_put put ++ fs) (same_choice (acts tr name) (noted_in event) (frames_put tr name) quiet.0.noted)
+
+noted_case : (o : Option Frame) (kept : log.Log) (put : List Noted) → log.StandsFor put kept → log.StandsFor (noted_of o ++ put) (with_noted kept (noted_of o))
+noted_case None kept put stands = stands
+noted_case (Some f) kept put stands = still_stands put kept _ stands
+
+-- a log that stands for what was put still does, once it has noted a flight
+pub logged_stands : (put : Option Flight) (kept : log.Log) (frames : List Noted) → log.StandsFor frames kept → log.StandsFor (noted_put put ++ frames) (logged kept put)
+logged_stands None kept frames stands = stands
+logged_stands (Some flight) kept frames stands = noted_case (frame_of flight.bytes) kept frames stands
+
+noted_room : (o : Option Frame) (kept : log.Log) → (with_noted kept (noted_of o)).room ≡ kept.room
+noted_room None kept = refl
+noted_room (Some f) kept = refl
+
+-- the room of a log stays
+pub logged_room : (put : Option Flight) (kept : log.Log) → (logged kept put).room ≡ kept.room
+logged_room None kept = refl
+logged_room (Some flight) kept = noted_room (frame_of flight.bytes) kept
+
+-- ---- inputs
+
+-- an input that lets a host act is no restart
+pub no_restart : (tr : List Entry) (input : Input) (name : List ℕ) → lets_act tr input name ≡ true → is_restart_of input name ≡ false
+no_restart tr (Restart node) name acting = absurd cc
+no_restart tr (Tick ticks) name acting = refl
+no_restart tr (Send host node packet body) name acting = refl
+no_restart tr (Raw host bytes) name acting = refl
+no_restart tr (Deliver flight) name acting = refl
+no_restart tr (Inject target bytes) name acting = refl
+no_restart tr (Cut link) name acting = refl
+no_restart tr (Mend link) name acting = refl
+no_restart tr (Shutoff host flight ttl) name acting = refl
+no_restart tr (Stop host call byte) name acting = refl
+no_restart tr (Halt host call byte) name acting = refl
+no_restart tr (Publish bytes) name acting = refl
+
+-- and arms no stop
+pub no_stop : (tr : List Entry) (input : Input) (name : List ℕ) (stop : Option Arming) → lets_act tr input name ≡ true → stop_after_input input name stop ≡ stop
+no_stop tr (Restart node) name stop acting = absurd cc
+no_stop tr (Stop host call byte) name stop acting = absurd cc
+no_stop tr (Tick ticks) name stop acting = refl
+no_stop tr (Send host node packet body) name stop acting = refl
+no_stop tr (Raw host bytes) name stop acting = refl
+no_stop tr (Deliver flight) name stop acting = refl
+no_stop tr (Inject target bytes) name stop acting = refl
+no_stop tr (Cut link) name stop acting = refl
+no_stop tr (Mend link) name stop acting = refl
+no_stop tr (Shutoff host flight ttl) name stop acting = refl
+no_stop tr (Halt host call byte) name stop acting = refl
+no_stop tr (Publish bytes) name stop acting = refl

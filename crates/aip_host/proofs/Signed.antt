@@ -1,0 +1,209 @@
+-- What comes of a signing of a host, and how the host stands then.
+use Rattle.std.proofs.Common.{◌≡◌, ◌≢◌, ℕ, ◌+◌, ◌≤◌, ◌==◌, ◌&&◌, max, Bool, true, false, not, if◌then◌else◌, List, [], ◌∷◌, length, refl, sym, ◌∙◌, ap, subst, Option, Some, None, arith}
+use Rattle.std.specs.Prelude.{Result, Ok, Err, IfOk, IfSome, is_some}
+use Rattle.std.specs.Str.{bytes_eq}
+use Rattle.std.specs.List.{AllByRecursion}
+use Rattle.std.proofs.Math.Nat.{zero-max}
+use Rattle.std.proofs.lemmas.Slice.Eq.{bytes_eq-Decides}
+use Rattle.std.proofs.lemmas.Bool.Decides.{nat_tests}
+use Rattle.lmots_core.specs.declared.parameters.Width.{Width}
+use Rattle.lmots_core.specs.declared.parameters.Width.TheVariants.{W1, W2, W4, W8}
+use Rattle.lms_core.specs.declared.height.Height.{Height}
+use Rattle.lms_core.specs.declared.height.Height.TheVariants.{H5, H10}
+use Rattle.lms_core.specs.Parameters.{leaves_of, signature_len_of}
+use Rattle.lms_core.specs.Tree.{Key, public_key_of, signature_of}
+use Rattle.lms_core.specs.Verify.{IsValidSignature, is_valid_signature, is_valid_under, width_in, height_in}
+use Rattle.aip_addr.specs.declared.ids.Address.{Address}
+use Rattle.aip_frame.specs.declared.frame.Frame.{Frame}
+use Rattle.aip_frame.specs.declared.frame.Kind.TheVariants.{Challenge}
+use Rattle.aip_frame.specs.Frame.{frame_of, frame_bytes, packet_hash_of}
+use Rattle.aip_event.specs.declared.event.Event.TheVariants.{Signed as Signs}
+use Rattle.aip_event.specs.declared.input.Target.{Target}
+use Rattle.verify_packet.specs.Challenge.{asked_in}
+use Rattle.shutoff_filter.specs.Body.{shutoff_text_of}
+use Rattle.sent_log.specs.Log.{Log}
+use Rattle.aip_rules.specs.declared.Arming.{Arming}
+use Rattle.aip_rules.specs.declared.Reaction.{Reaction}
+use Rattle.aip_rules.specs.declared.Seat.{Seat}
+use Rattle.aip_rules.specs.Nodes.{is_same_address}
+use Rattle.aip_rules.specs.Reaction.{behind, puts}
+use Rattle.aip_rules.specs.Standing.{Standing}
+use Rattle.aip_rules.specs.Host as rules
+use Rattle.aip_host.specs.declared.silencing.Demand.{Demand}
+use Rattle.aip_host.specs.declared.signing.Signing.{Signing}
+use Rattle.aip_host.specs.declared.signing.Signing.TheVariants.{Signed, Dry, Stopped}
+use Rattle.aip_host.specs.Signing.{KeyState, SignsValidly, IsShort, is_dry, spent_on, signing_of, next_after, stop_after, down_after}
+use Rattle.aip_host.specs.Signing as key
+use Rattle.aip_host.specs.HostState.{HostState, key_in, down_in, standing_of}
+use Rattle.aip_host.specs.After.{Follows, IsQuiet, logged, next_past, stop_past, down_past}
+use Rattle.aip_host.specs.Ended.{demand_frame, ended}
+
+-- ---- how long a signature is
+
+-- a signature of any parameter sets is short
+short_len : (width : Width) (height : Height) → signature_len_of width height ≤ 8844
+short_len W1 H5 = omega arith
+short_len W1 H10 = omega arith
+short_len W2 H5 = omega arith
+short_len W2 H10 = omega arith
+short_len W4 H5 = omega arith
+short_len W4 H10 = omega arith
+short_len W8 H5 = omega arith
+short_len W8 H10 = omega arith
+
+short_under : (width : Option Width) (height : Option Height) (key message signature : List ℕ)
+    → is_valid_under width height key message signature ≡ true → length signature ≤ 8844
+short_under None height key message signature is = absurd cc
+short_under (Some width) None key message signature is = absurd cc
+short_under (Some width) (Some height) key message signature is =
+    let len : length signature ≡ signature_len_of width height = grind (arith, nat_tests) in
+    omega (arith, short_len width height, len)
+
+-- a valid signature is short
+pub valid_short : (key message signature : List ℕ) → IsValidSignature key message signature → length signature ≤ 8844
+unfolding is_valid_signature
+valid_short key message signature is = short_under (width_in key) (height_in key) key message signature (grind (arith, nat_tests))
+
+-- so is the signature of a leaf that signed
+pub signing_short : (key message : List ℕ) (signing : Signing) → SignsValidly key message signing → IsShort signing
+signing_short key message (Signed leaf signature) is = valid_short key message signature is
+signing_short key message Dry is = tt
+signing_short key message (Stopped leaf call byte) is = tt
+
+-- ---- what comes of it
+
+-- what comes of a signing, in the words of another frame and another signing that are the same
+pub ended_is : {E : Type 0} (result : Result Reaction E) (seat : Seat) (towards : Target) (frame other : List ℕ → Frame) (signing same : Signing)
+    → IfOk result (λ reaction. reaction ≡ ended seat towards frame signing) → frame ≡ other → signing ≡ same
+    → IfOk result (λ reaction. reaction ≡ ended seat towards other same)
+ended_is result seat towards frame other signing same is same_frame same_signing =
+    subst (λ s. IfOk result (λ reaction. reaction ≡ ended seat towards other s)) same_signing
+    (subst (λ f. IfOk result (λ reaction. reaction ≡ ended seat towards f signing)) same_frame is)
+
+-- a plain host hands down whatever it puts
+plain_hands : (s : Standing) (bytes : List ℕ) (o : Option Frame) → s.guarded ≡ false → rules.handed_to s bytes (rules.withheld_key s o) ≡ puts s.towards bytes
+plain_hands s bytes None plain = refl
+plain_hands s bytes (Some f) plain = rw plain refl
+
+-- a host with a key
+abbrev with_key : HostState → KeyState → HostState
+with_key old kept = record old { key = Some kept }
+
+module _ (old : HostState) (kept : KeyState) (now : ℕ) (text : List ℕ) (frame : List ℕ → Frame) where
+  abbrev s : Standing
+  s = standing_of (with_key old kept) now
+
+  signed_case : (dry : Bool) (stop : Option Arming) → rules.signed s kept.key text frame (if dry then rules.Dry else rules.signing_with kept.next stop)
+      ≡ ended old.seat old.towards frame (if dry then Dry else spent_on kept text stop)
+  signed_case true stop = refl
+  signed_case false (Some arming) = refl
+  signed_case false None =
+      let bytes = frame_bytes (frame (signature_of kept.key kept.next text)) in
+      ap (behind (Signs old.seat.name kept.next)) (plain_hands s bytes (frame_of bytes) refl)
+
+  -- what the rules say of a signing of a host is what comes of it
+  pub signed_is : rules.signed s kept.key text frame (rules.signing s kept.key) ≡ ended old.seat old.towards frame (signing_of kept text)
+  signed_is = signed_case (is_dry kept) kept.stop
+
+-- a host that has this key is the host with it
+keyed : (old : HostState) (kept : KeyState) → old.key ≡ Some kept → old ≡ with_key old kept
+keyed old kept is = ap (λ k. record old { key = k }) is
+
+-- a shut-off to this address that names the frame of this packet hash
+abbrev shut_to : HostState → KeyState → ℕ → ℕ → Address → List ℕ → Reaction
+shut_to old kept now ttl to hash =
+    rules.signed (standing_of (with_key old kept) now) kept.key (shutoff_text_of old.seat.address to hash now ttl)
+    (demand_frame old.seat.address (record { to = to; hash = hash; issue = now; ttl = ttl }) (public_key_of kept.key))
+    (rules.signing (standing_of (with_key old kept) now) kept.key)
+
+-- a host that is up signs a shut-off to the source of the frame that it names
+shut_up : (old : HostState) (kept : KeyState) (now ttl : ℕ) (frame : Frame) → kept.is_down ≡ false
+    → rules.shut_by (standing_of (with_key old kept) now) kept.key frame ttl ≡ shut_to old kept now ttl frame.from (packet_hash_of frame)
+shut_up old kept now ttl frame up = rw up refl
+
+-- a shut-off that a host signs is the one of the rules
+pub shut_is : (old : HostState) (kept : KeyState) (demand : Demand) (named : Option Frame) (reaction : Reaction) → old.key ≡ Some kept → kept.is_down ≡ false
+    → IfSome named (λ f. demand.to ≡ f.from) → IfSome named (λ f. demand.hash ≡ packet_hash_of f)
+    → reaction ≡ ended old.seat old.towards (demand_frame old.seat.address demand (public_key_of kept.key)) (signing_of kept (shutoff_text_of old.seat.address demand.to demand.hash demand.issue demand.ttl))
+    → (key : Key) (frame : Frame) → key_in old.key ≡ Some key → named ≡ Some frame → reaction ≡ rules.shut_by (standing_of old demand.issue) key frame demand.ttl
+shut_is old kept demand None reaction is up same_to same_hash comes key frame has there = absurd cc
+shut_is old kept demand (Some f) reaction is up same_to same_hash comes key frame has there =
+    let same_frame : f ≡ frame = cc in
+    let own_key : key_in old.key ≡ Some kept.key = ap key_in is in
+    let same_key : kept.key ≡ key = cc in
+    let to : demand.to ≡ frame.from = same_to ∙ ap (λ (g : Frame). g.from) same_frame in
+    let hash : demand.hash ≡ packet_hash_of frame = same_hash ∙ ap packet_hash_of same_frame in
+    let own : reaction ≡ rules.shut_by (standing_of (with_key old kept) demand.issue) kept.key frame demand.ttl
+    = comes
+    ∙ sym (signed_is old kept demand.issue _ _)
+    ∙ ap (λ t. shut_to old kept demand.issue demand.ttl t demand.hash) to
+    ∙ ap (shut_to old kept demand.issue demand.ttl frame.from) hash
+    ∙ sym (shut_up old kept demand.issue demand.ttl frame up) in
+    subst (λ k. reaction ≡ rules.shut_by (standing_of old demand.issue) k frame demand.ttl) same_key
+    (subst (λ h. reaction ≡ rules.shut_by (standing_of h demand.issue) kept.key frame demand.ttl) (sym (keyed old kept is)) own)
+
+-- a challenge that reaches a host that is up
+pub taken_challenge : {E : Type 0} (result : Result Reaction E) (s : Standing) (frame : Frame) → is_same_address s.seat.address frame.to ≡ true → frame.kind ≡ Challenge
+    → IfOk result (λ reaction. reaction ≡ rules.challenged s frame (asked_in frame.body)) → IfOk result (λ reaction. reaction ≡ rules.taken_at_host s (Some frame))
+taken_challenge result s frame mine is comes =
+    let same : rules.taken_at_host s (Some frame) ≡ rules.challenged s frame (asked_in frame.body) = rw (mine, is) refl in
+    subst (λ r. IfOk result (λ reaction. reaction ≡ r)) (sym same) comes
+
+-- ---- how the host stands then
+
+-- a name is itself
+pub same_name : (name : List ℕ) → bytes_eq name name ≡ true
+same_name name = (bytes_eq-Decides name name).1 refl
+
+module _ (seat : Seat) (towards : Target) (frame : List ℕ → Frame) (kept : KeyState) (text : List ℕ) where
+  -- what comes of a signing that is dry or not, with this stop armed or none
+  abbrev comes : Bool → Option Arming → Reaction
+  comes dry stop = ended seat towards frame (if dry then Dry else spent_on kept text stop)
+
+  next_case : (dry : Bool) (stop : Option Arming) → (if dry then kept.next else key.next_past kept.next stop) ≡ next_past (comes dry stop).events seat.name kept.next
+  next_case true stop = sym (zero-max kept.next)
+  next_case false None = rw (same_name seat.name) (omega arith)
+  next_case false (Some arming) = rw (same_name seat.name) (byte_case (arming.byte == 0))
+    where
+      byte_case : (zero : Bool) → (if zero then kept.next else kept.next + 1) ≡ max (if not zero then kept.next + 1 else 0) kept.next
+      byte_case true = sym (zero-max kept.next)
+      byte_case false = omega arith
+
+  stop_case : (dry : Bool) (stop : Option Arming) → (if dry then stop else None) ≡ stop_past (comes dry stop).events seat.name stop
+  stop_case true stop = refl
+  stop_case false None = refl
+  stop_case false (Some arming) = rw (same_name seat.name) refl
+
+  down_case : (dry : Bool) (stop : Option Arming) → (if dry then false else is_some stop) ≡ down_past (comes dry stop).events seat.name false
+  down_case true stop = refl
+  down_case false None = refl
+  down_case false (Some arming) = rw (same_name seat.name) refl
+
+  quiet_case : (dry : Bool) (stop : Option Arming) → AllByRecursion (λ event. IsQuiet event seat.name) (comes dry stop).events
+  quiet_case true stop = (record { noted = refl; told = refl }, tt)
+  quiet_case false None = (record { noted = refl; told = refl }, tt)
+  quiet_case false (Some arming) = (record { noted = refl; told = refl }, tt)
+
+-- the key of a host that is up is up
+pub key_up : (inside host : HostState) (kept : KeyState) → inside ≡ host → inside.key ≡ Some kept → down_in host.key ≡ false → kept.is_down ≡ false
+key_up inside host kept same is up = ap down_in (sym is) ∙ ap (λ (h : HostState). down_in h.key) same ∙ up
+
+-- after a signing the host stands as what came of it tells
+pub signing_follows : (old : HostState) (kept after : KeyState) (log : Log) (reaction : Reaction) (frame : List ℕ → Frame) (text : List ℕ) → old.key ≡ Some kept → kept.is_down ≡ false
+    → reaction ≡ ended old.seat old.towards frame (signing_of kept text) → log ≡ logged old.log reaction.put
+    → after.next ≡ next_after kept → after.stop ≡ stop_after kept → after.is_down ≡ down_after kept → after.key ≡ kept.key
+    → Follows old reaction (record { seat = old.seat; towards = old.towards; room = old.room; log = log; key = Some after })
+signing_follows old kept after log reaction frame text is up comes_is log_is next stop down same_key =
+    subst (λ h. Follows h reaction (record { seat = old.seat; towards = old.towards; room = old.room; log = log; key = Some after })) (sym (keyed old kept is))
+    (subst (λ r. Follows (with_key old kept) r (record { seat = old.seat; towards = old.towards; room = old.room; log = log; key = Some after })) (sym comes_is)
+    (record {
+      seat = refl;
+      towards = refl;
+      room = refl;
+      key = ap Some same_key;
+      quiet = quiet_case old.seat old.towards frame kept text (is_dry kept) kept.stop;
+      log = log_is ∙ ap (λ r. logged old.log r.put) comes_is;
+      next = next ∙ next_case old.seat old.towards frame kept text (is_dry kept) kept.stop;
+      stop = stop ∙ stop_case old.seat old.towards frame kept text (is_dry kept) kept.stop;
+      down = down ∙ down_case old.seat old.towards frame kept text (is_dry kept) kept.stop ∙ ap (down_past (ended old.seat old.towards frame (signing_of kept text)).events old.seat.name) (sym up);
+    }))

@@ -1,0 +1,271 @@
+//! Hosts of networks that two other implementations ran: what they put, answer, drop and sign, and what they forget.
+ghost use Rattle.std.specs.Prelude.{◌≤◌};
+
+use crate::Host;
+use aip_addr::{Address, Id, Name};
+use aip_event::{Event, Reason, Target};
+use aip_frame::is_frame;
+use aip_rules::{Reaction, Seat};
+use aip_topo::Settings;
+use lms_core::{Height, Tree, Width};
+use sha2::{Digest, Sha256};
+use std::alloc::Global;
+use std::test::Fail;
+
+// The packet 1 that host a sends to host b.
+const PACKET: [u8; 91] = *b"\
+    \x01\x00\x40\x00\x00\x00\x00\x01\x01\x11\x11\x11\x11\x11\x11\x11\x11\x11\x11\x11\x11\x11\x11\x11\x11\x11\x11\
+    \x00\x01\x80\x32\x6a\xee\x46\x27\xa6\x80\xa8\x2b\x2e\x03\xb5\x4a\x12\x77\xd7\xee\x00\x01\x11\x11\x11\x11\x11\
+    \x11\x11\x11\x11\x11\x11\x11\x11\x11\x11\x11\x11\x11\x00\x01\x4b\x9c\x00\xc6\x6d\x49\x57\x0c\x20\xa6\xf6\xd6\
+    \x8a\xcc\x49\x4f\xcd\xdb\x00\x00\x01\x00";
+
+// The challenge that router r puts to host a for that packet, from a network whose routers don't check tags of others.
+const CHALLENGE: [u8; 244] = *b"\
+    \x01\x01\x05\x00\x00\x00\x00\x01\x01\x11\x11\x11\x11\x11\x11\x11\x11\x11\x11\x11\x11\x11\x11\x11\x11\x11\x11\
+    \x00\x01\x4b\x9c\x00\xc6\x6d\x49\x57\x0c\x20\xa6\xf6\xd6\x8a\xcc\x49\x4f\xcd\xdb\x00\x01\x11\x11\x11\x11\x11\
+    \x11\x11\x11\x11\x11\x11\x11\x11\x11\x11\x11\x11\x11\x00\x00\xc6\xdc\xb4\xc7\x7c\xf2\x00\xec\xbb\x25\x2a\x5f\
+    \x85\x0e\x01\x2c\xc5\xa5\x00\x00\x9a\x01\x11\x11\x11\x11\x11\x11\x11\x11\x11\x11\x11\x11\x11\x11\x11\x11\x11\
+    \x11\x00\x00\xc6\xdc\xb4\xc7\x7c\xf2\x00\xec\xbb\x25\x2a\x5f\x85\x0e\x01\x2c\xc5\xa5\x00\x01\x11\x11\x11\x11\
+    \x11\x11\x11\x11\x11\x11\x11\x11\x11\x11\x11\x11\x11\x11\x00\x01\x4b\x9c\x00\xc6\x6d\x49\x57\x0c\x20\xa6\xf6\
+    \xd6\x8a\xcc\x49\x4f\xcd\xdb\x00\x5a\x81\x57\xae\xaa\x44\x76\x40\x5f\x61\xe1\x3e\x90\x74\x84\xc3\x9f\xe4\x2c\
+    \x4a\xeb\x8f\xb8\x8a\x07\x5e\xcf\x44\x55\x36\xaa\x35\x00\x00\x00\x00\x00\x00\x00\x00\x00\x00\x00\x00\x00\x00\
+    \x00\x00\x00\x00\x00\x00\x00\x00\x00\x00\x00\x00\x00\x00\x00\x00\x00\x00\x00\x00\x00\x00\x00\x00\x00\x00\x00\
+    \x00";
+
+// The SHA-256 of the frame in which host a answers the challenge with its leaf 0.
+const RESPONSE_DIGEST: [u8; 32] = *b"\
+    \x9f\x1a\x74\x3c\x2a\xf7\xc5\xb4\x16\x6d\x29\x7a\x43\x5c\xaf\xbc\xd3\xaf\x0c\xcf\x2f\x5a\x7d\x44\x80\xa5\xea\x04\xe0\xe9\x85\x3d";
+
+// The SHA-256 of the shut-off by which host b names the packet at tick 5, for 10 ticks, with its leaf 0.
+const SHUTOFF_DIGEST: [u8; 32] = *b"\
+    \xf0\x9e\xf6\x5b\x86\x15\x50\x81\x60\xa2\x19\xe6\x40\x17\x60\xa7\x32\xd0\xa9\xcd\x62\xcb\xa2\xef\xa5\x99\x01\x71\xfc\x5f\x4b\x0a";
+
+const HOST_A: [u8; 20] = *b"\
+    \x01\x4b\x9c\x00\xc6\x6d\x49\x57\x0c\x20\xa6\xf6\xd6\x8a\xcc\x49\x4f\xcd\xdb\x00";
+
+const HOST_B: [u8; 20] = *b"\
+    \x01\x80\x32\x6a\xee\x46\x27\xa6\x80\xa8\x2b\x2e\x03\xb5\x4a\x12\x77\xd7\xee\x00";
+
+fn address(eid: [u8; 20]) -> Address {
+    let mut ad = [0x11; 20];
+    ad[0] = 1;
+    ad[19] = 0;
+    Address {
+        ad: Id { bytes: ad },
+        eid: Id { bytes: eid },
+    }
+}
+
+fn settings(log: u16) -> Settings
+    requires { 1 ≤ log }
+    ensures { 1 ≤ result.log }
+{
+    Settings {
+        accept: 600,
+        cache: 64,
+        epoch: 60,
+        filter: 16,
+        log,
+        threshold: 8,
+        wild: 600,
+        wildcache: 16,
+    }
+}
+
+fn seed(alloc: Global, byte: u8) -> Result<Tree, Fail> {
+    let tree = Tree::build(alloc, &[byte; 32], Width::W4, Height::H5)?;
+    Ok(tree)
+}
+
+fn host(
+    alloc: Global,
+    name: &[u8],
+    eid: [u8; 20],
+    key: Option<Tree>,
+    log: u16,
+) -> Result<Host, Fail>
+    requires { 1 ≤ log }
+{
+    let seat = Seat {
+        name: Name::read(name).ok_or("a name")?,
+        router: 0,
+        port: 0,
+        address: address(eid),
+    };
+    let towards = Target::Port {
+        router: Name::read(b"r").ok_or("a name")?,
+        port: 0,
+    };
+    let host = Host::new(alloc, seat, towards, &settings(log), key)?;
+    Ok(host)
+}
+
+// Host a, with its key.
+fn host_a(alloc: Global, log: u16) -> Result<Host, Fail>
+    requires { 1 ≤ log }
+{
+    let tree = seed(alloc, 1)?;
+    host(alloc, b"a", HOST_A, Some(tree), log)
+}
+
+// Why a host dropped what reached it, if that is all that happened.
+fn drop_in(reaction: &Reaction) -> Option<Reason> {
+    match (reaction.events.as_slice(), &reaction.put) {
+        ([Event::Drop { node: _, reason }], None) => Some(*reason),
+        _ => None,
+    }
+}
+
+// The leaf that signed, if that is all that happened.
+fn leaf_in(reaction: &Reaction) -> Option<u64> {
+    match reaction.events.as_slice() {
+        [Event::Signed { host: _, leaf }] => Some(*leaf),
+        _ => None,
+    }
+}
+
+// The leaf at which a stop fell, if that is all that happened.
+fn stop_in(reaction: &Reaction) -> Option<u64> {
+    match (reaction.events.as_slice(), &reaction.put) {
+        (
+            [
+                Event::Stopped {
+                    host: _,
+                    leaf,
+                    call: _,
+                    byte: _,
+                },
+            ],
+            None,
+        ) => Some(*leaf),
+        _ => None,
+    }
+}
+
+// The SHA-256 of the bytes that are put.
+fn digest_in(reaction: &Reaction) -> Option<[u8; 32]> {
+    match &reaction.put {
+        Some(flight) => Some(Sha256::digest(flight.bytes.as_slice())),
+        None => None,
+    }
+}
+
+// Sends the packet of this id from host a to host b.
+fn send(alloc: Global, host: &mut Host, packet: u32) -> Result<Reaction, Fail> {
+    let reaction = host.send(alloc, address(HOST_B), packet, &[0])?;
+    Ok(reaction)
+}
+
+#[test]
+fn a_challenge_is_answered(rt: HostRuntime) -> Result<(), Fail> {
+    let alloc = rt.alloc();
+    let mut host = host_a(alloc, 128)?;
+    let sent = send(alloc, &mut host, 1)?;
+    assert_eq!(rt; digest_in(&sent), Some(Sha256::digest(&PACKET)));
+    let answer = host.arrive(alloc, 0, &CHALLENGE)?;
+    assert_eq!(rt; leaf_in(&answer), Some(0));
+    assert_eq!(rt; digest_in(&answer), Some(RESPONSE_DIGEST));
+    Ok(())
+}
+
+#[test]
+fn a_challenge_for_another_host_or_packet_is_dropped(rt: HostRuntime) -> Result<(), Fail> {
+    let alloc = rt.alloc();
+    let mut host = host_a(alloc, 128)?;
+    let _sent = send(alloc, &mut host, 1)?;
+    let mut other = CHALLENGE;
+    other[150..170].copy_from_slice(&HOST_B);
+    let reaction = host.arrive(alloc, 0, &other)?;
+    assert_eq!(rt; drop_in(&reaction), Some(Reason::NotMine));
+    let mut unknown = CHALLENGE;
+    unknown[201] = 0x34;
+    let reaction = host.arrive(alloc, 0, &unknown)?;
+    assert_eq!(rt; drop_in(&reaction), Some(Reason::Unlogged));
+    let mut stray = CHALLENGE;
+    stray[28..48].copy_from_slice(&HOST_B);
+    let reaction = host.arrive(alloc, 0, &stray)?;
+    assert_eq!(rt; drop_in(&reaction), Some(Reason::Stray));
+    let reaction = host.arrive(alloc, 0, &CHALLENGE[..243])?;
+    assert_eq!(rt; drop_in(&reaction), Some(Reason::Bad));
+    Ok(())
+}
+
+#[test]
+fn a_host_without_a_key_is_mute(rt: HostRuntime) -> Result<(), Fail> {
+    let alloc = rt.alloc();
+    let mut host = host(alloc, b"a", HOST_A, None, 128)?;
+    assert!(rt; !host.has_key());
+    let _sent = send(alloc, &mut host, 1)?;
+    let reaction = host.arrive(alloc, 0, &CHALLENGE)?;
+    assert_eq!(rt; drop_in(&reaction), Some(Reason::Mute));
+    Ok(())
+}
+
+// Bytes that are no frame push nothing out of the log.
+#[test]
+fn a_log_of_two_forgets_the_third_last_frame(rt: HostRuntime) -> Result<(), Fail> {
+    let alloc = rt.alloc();
+    let mut host = host_a(alloc, 2)?;
+    let _first = send(alloc, &mut host, 1)?;
+    let _second = send(alloc, &mut host, 2)?;
+    for length in [1usize, 89, 90] {
+        let noise = host.raw(alloc, &PACKET[..length])?;
+        assert!(rt; noise.put.is_some());
+    }
+    let answer = host.arrive(alloc, 0, &CHALLENGE)?;
+    assert_eq!(rt; leaf_in(&answer), Some(0));
+    // The answer is a frame that is put.
+    let answer = host.arrive(alloc, 0, &CHALLENGE)?;
+    assert_eq!(rt; drop_in(&answer), Some(Reason::Unlogged));
+    Ok(())
+}
+
+#[test]
+fn a_dry_host_answers_no_more(rt: HostRuntime) -> Result<(), Fail> {
+    let alloc = rt.alloc();
+    let mut host = host_a(alloc, 128)?;
+    let _sent = send(alloc, &mut host, 1)?;
+    for leaf in 0..32u64 {
+        let answer = host.arrive(alloc, 0, &CHALLENGE)?;
+        assert_eq!(rt; leaf_in(&answer), Some(leaf));
+    }
+    let answer = host.arrive(alloc, 0, &CHALLENGE)?;
+    assert_eq!(rt; drop_in(&answer), Some(Reason::Dry));
+    Ok(())
+}
+
+#[test]
+fn a_shut_off_names_a_frame(rt: HostRuntime) -> Result<(), Fail> {
+    let alloc = rt.alloc();
+    let tree = seed(alloc, 2)?;
+    let mut host = host(alloc, b"b", HOST_B, Some(tree), 128)?;
+    assert!(rt; host.has_key());
+    assert!(rt; is_frame(&PACKET));
+    let reaction = host.shut(alloc, 5, &PACKET, 10)?;
+    assert_eq!(rt; leaf_in(&reaction), Some(0));
+    assert_eq!(rt; digest_in(&reaction), Some(SHUTOFF_DIGEST));
+    Ok(())
+}
+
+#[test]
+fn a_host_is_down_from_a_stop_to_its_restart(rt: HostRuntime) -> Result<(), Fail> {
+    let alloc = rt.alloc();
+    let mut host = host_a(alloc, 128)?;
+    let _sent = send(alloc, &mut host, 1)?;
+    assert!(rt; host.has_key());
+    host.stop(1, 255);
+    host.halt(1, 255);
+    let stopped = host.arrive(alloc, 0, &CHALLENGE)?;
+    assert_eq!(rt; stop_in(&stopped), Some(0));
+    let sent = send(alloc, &mut host, 1)?;
+    assert_eq!(rt; drop_in(&sent), Some(Reason::Down));
+    let reaction = host.arrive(alloc, 0, &CHALLENGE)?;
+    assert_eq!(rt; drop_in(&reaction), Some(Reason::Down));
+    let _said = host.restart(alloc)?;
+    let reaction = host.arrive(alloc, 0, &CHALLENGE)?;
+    assert_eq!(rt; drop_in(&reaction), Some(Reason::Unlogged));
+    let _sent = send(alloc, &mut host, 1)?;
+    let answer = host.arrive(alloc, 0, &CHALLENGE)?;
+    assert_eq!(rt; leaf_in(&answer), Some(1));
+    Ok(())
+}

@@ -1,0 +1,120 @@
+-- Why a verdict may be to forward, and what the tests of kinds, addresses and names say.
+use Rattle.std.proofs.Common.{◌≡◌, ℕ, Bool, true, false, cond, List, Option, Some, None, refl, sym, ap, subst, ◌∙◌, true≢false, get_or}
+use Rattle.std.proofs.lemmas.Bool.{and_parts, eqb-true}
+use Rattle.std.proofs.lemmas.List.Quantifiers.{position-Some}
+use Rattle.std.proofs.lemmas.Option.{get_or_from_slice_get}
+use Rattle.std.proofs.lemmas.Slice.Eq.{bytes_eq-Decides}
+use Rattle.std.specs.Cmp.{first_so, second_so, unsigned_Decides}
+use Rattle.std.specs.Prelude.{slice_get}
+use Rattle.std.specs.Str.{bytes_eq}
+use Rattle.aip_addr.specs.declared.ids.Address.{Address}
+use Rattle.aip_frame.specs.declared.frame.Kind.{Kind}
+use Rattle.aip_frame.specs.declared.frame.Kind.TheVariants.{Data, Challenge, Response, ShutOff}
+use Rattle.aip_event.specs.declared.event.Cause.{Cause}
+use Rattle.first_hop.specs.Verdict.{host_verdict}
+use Rattle.border_check.specs.Verdict.{port_verdict, leads_back}
+use Rattle.aip_topo.specs.declared.topology.Router.{Router}
+use Rattle.aip_topo.specs.declared.topology.Topology.{Topology}
+use Rattle.aip_rules.specs.declared.Entry.{Entry}
+use Rattle.aip_rules.specs.declared.Neighbour.{Neighbour}
+use Rattle.aip_rules.specs.declared.Neighbour.TheVariants as neighbour
+use Rattle.aip_rules.specs.declared.Reaction.{Reaction}
+use Rattle.aip_rules.specs.Nodes.{router_named, is_same_address}
+use Rattle.aip_rules.specs.Router.{Arrival, Forwards, is_of_domain, trusts, of_host, of_border, verdict_by, is_challenge, is_response}
+use Rattle.aip_rules.specs.Promises.{HasTrustedEnd, IsLink, IsTrusted}
+use Rattle.aip_rules.proofs.JustifiedBacked.{IsRouterNamed, Follow}
+
+-- ---- the causes
+
+-- why a verdict may be to forward, by what lies at the port
+pub data Reasons (topo : Topology) (self : Router) (at : Option Neighbour) (back : Option ℕ) (port : ℕ) (fresh wild : Bool) : Type 0 where
+  Trusted : IsTrusted topo self at → Reasons topo self at back port fresh wild
+  Reverse : IsLink at → back ≡ Some port → Reasons topo self at back port fresh wild
+  Fresh : fresh ≡ true → Reasons topo self at back port fresh wild
+  FreshDomain : IsLink at → wild ≡ true → Reasons topo self at back port fresh wild
+
+at_host_port : (topo : Topology) (at : Arrival) (name : List ℕ) (back : Option ℕ) (foreign fresh wild : Bool) (why : Cause)
+    → of_host at.port (host_verdict foreign fresh) ≡ Forwards why → Reasons topo at.self (Some (neighbour.Host name)) back at.port fresh wild
+at_host_port topo at name back true fresh wild why e = absurd cc
+at_host_port topo at name back false true wild why e = Fresh refl
+at_host_port topo at name back false false wild why e = absurd cc
+
+-- where a port leads back, it is the port towards the source
+led_back : (back : Option ℕ) (port : ℕ) → leads_back back port ≡ true → back ≡ Some port
+led_back None port t = absurd (true≢false (sym t))
+led_back (Some back) port t = ap Some ((unsigned_Decides back port).0 t)
+
+-- a neighbour that is trusted stands over a marked end, and is of the router's domain
+trusted_end : (topo : Topology) (self : Router) (other : ℕ) (marked : Bool) → trusts topo self other marked ≡ true → HasTrustedEnd topo self other marked
+trusted_end topo self other marked t =
+    let parts = and_parts marked (is_of_domain (slice_get topo.routers other) self.domain) t in
+    by (slice_get topo.routers other) refl parts.1
+  where
+    by : (found : Option Router) → slice_get topo.routers other ≡ found → is_of_domain found self.domain ≡ true → HasTrustedEnd topo self other marked
+    by None there of = absurd (true≢false (sym of))
+    by (Some router) there of = record {
+      is_marked = (and_parts marked (is_of_domain (slice_get topo.routers other) self.domain) t).0;
+      neighbour = router;
+      there = there;
+      one_domain = eqb-true router.domain self.domain of;
+    }
+
+at_link_port : (topo : Topology) (at : Arrival) (other far : ℕ) (marked : Bool) (back : Option ℕ) (trusted reverse fresh wild : Bool) (why : Cause)
+    → (trusted ≡ true → HasTrustedEnd topo at.self other marked) → (reverse ≡ true → back ≡ Some at.port)
+    → of_border back (port_verdict trusted reverse fresh wild) ≡ Forwards why
+    → Reasons topo at.self (Some (neighbour.Link other far marked)) back at.port fresh wild
+at_link_port topo at other far marked back true reverse fresh wild why t r e = Trusted (t refl)
+at_link_port topo at other far marked back false true fresh wild why t r e = Reverse tt (r refl)
+at_link_port topo at other far marked back false false true wild why t r e = Fresh refl
+at_link_port topo at other far marked back false false false true why t r e = FreshDomain tt refl
+at_link_port topo at other far marked back false false false false why t r e = absurd cc
+
+-- a verdict to forward has one of the reasons
+pub reasoned : (topo : Topology) (at : Arrival) (there : Option Neighbour) (source : Address) (back : Option ℕ) (fresh wild : Bool) (why : Cause)
+    → verdict_by topo at there source back fresh wild ≡ Forwards why → Reasons topo at.self there back at.port fresh wild
+reasoned topo at None source back fresh wild why e = absurd cc
+reasoned topo at (Some (neighbour.Host name)) source back fresh wild why e = at_host_port topo at name back _ fresh wild why e
+reasoned topo at (Some (neighbour.Link other far marked)) source back fresh wild why e =
+    at_link_port topo at other far marked back (trusts topo at.self other marked) (leads_back back at.port) fresh wild why
+    (trusted_end topo at.self other marked) (led_back back at.port) e
+
+-- ---- tests of kinds, addresses and names
+
+pub challenges : (kind : Kind) → is_challenge kind ≡ true → kind ≡ Challenge
+challenges Data t = absurd (true≢false (sym t))
+challenges Challenge t = refl
+challenges Response t = absurd (true≢false (sym t))
+challenges ShutOff t = absurd (true≢false (sym t))
+
+pub responses : (kind : Kind) → is_response kind ≡ true → kind ≡ Response
+responses Data t = absurd (true≢false (sym t))
+responses Challenge t = absurd (true≢false (sym t))
+responses Response t = refl
+responses ShutOff t = absurd (true≢false (sym t))
+
+pub same_addresses : (a b : Address) → is_same_address a b ≡ true → a ≡ b
+same_addresses a b t =
+    let ad = (bytes_eq-Decides a.ad.bytes b.ad.bytes).0 (first_so (bytes_eq a.ad.bytes b.ad.bytes) (bytes_eq a.eid.bytes b.eid.bytes) t) in
+    let eid = (bytes_eq-Decides a.eid.bytes b.eid.bytes).0 (second_so (bytes_eq a.ad.bytes b.ad.bytes) (bytes_eq a.eid.bytes b.eid.bytes) t) in
+    λ i. record { ad = record { bytes = ad i }; eid = record { bytes = eid i } }
+
+-- a router that is found by a name has it
+pub found_name : (routers : List Router) (name : List ℕ) (place : ℕ) (self : Router) → router_named routers name ≡ Some place → slice_get routers place ≡ Some self
+    → name ≡ self.name
+found_name routers name place self named there =
+    let passes = (position-Some (λ router. bytes_eq router.name name) routers place self named).1 in
+    let read : get_or routers place self ≡ self = get_or_from_slice_get routers place self self there in
+    sym ((bytes_eq-Decides self.name name).0 (subst (λ (r : Router). bytes_eq r.name name ≡ true) read passes))
+
+-- one name is that of one router
+pub same_router : (topo : Topology) (name : List ℕ) (p q : ℕ) (r s : Router) → IsRouterNamed topo name p r → IsRouterNamed topo name q s → (p ≡ q) × (r ≡ s)
+same_router topo name p q r s one other =
+    let place : p ≡ q = let e : Some p ≡ Some q = sym one.named ∙ other.named in cc in
+    let e : Some r ≡ Some s = sym one.there ∙ ap (slice_get topo.routers) place ∙ other.there in
+    (place, cc)
+
+-- both of two outcomes follow
+pub either_follows : (topo : Topology) (tr : List Entry) (test : Bool) (a b : Reaction) → (test ≡ true → Follow topo tr a.events) → (test ≡ false → Follow topo tr b.events)
+    → Follow topo tr (cond test a b).events
+either_follows topo tr true a b p q = p refl
+either_follows topo tr false a b p q = q refl
