@@ -12,6 +12,7 @@ use Rattle.aip_event.specs.declared.input.Target.TheVariants as target
 use Rattle.lms_core.specs.Tree.{Key}
 use Rattle.aip_topo.specs.declared.topology.Router.{Router}
 use Rattle.aip_topo.specs.declared.topology.Topology.{Topology}
+use Rattle.aip_topo.specs.Sound.{IsSound}
 use Rattle.aip_rules.specs.declared.Entry.{Entry}
 use Rattle.aip_rules.specs.declared.Entry.TheVariants.{Taken}
 use Rattle.aip_rules.specs.declared.Flight.{Flight}
@@ -22,11 +23,13 @@ use Rattle.aip_rules.specs.declared.StepFault.TheVariants as fault
 use Rattle.aip_rules.specs.State.{now_of, input_count, flight_at, flight_count, frame_in}
 use Rattle.aip_rules.specs.Nodes.{seats_of, seat_named, router_named, address_named, links_of, neighbours_of, key_named}
 use Rattle.aip_rules.specs.Reaction.{nothing, puts, events_on}
+use Rattle.aip_rules.specs.Records.{publishes, records_kept}
 use Rattle.aip_rules.specs.Standing.{standing}
 use Rattle.aip_rules.specs.Host.{sent_frame}
-use Rattle.aip_rules.specs.Step.{most_bytes, most_inputs, can_be_put, refused_if, still_to_come, sent, put_raw, arrives_at_router, arrives_at_port, arrives_at_seat, arrives, delivered, injected_at_port, injected_at_host, injected, shut_with, shut_named, shut_off, restarted, has_key, stop_armed, halt_armed, outcome_of, events_of, step_of, after_step, goes_on, trace_from}
+use Rattle.aip_rules.specs.Step.{most_bytes, most_inputs, can_be_put, refused_if, sent, put_raw, arrives_at_router, arrives_at_port, arrives_at_seat, arrives, delivered, injected_at_port, injected_at_host, injected, shut_with, shut_named, shut_off, restarted, has_key, stop_armed, halt_armed, published, outcome_of, events_of, step_of, after_step, goes_on, trace_from}
 use Rattle.aip_rules.specs.Promises.{ForwardsAreJustified, HoldsOfAll}
-use Rattle.aip_rules.proofs.JustifiedBacked.{AreBacked, Follow, quiet_follow, put_follows, still_backed, forwards_backed}
+use Rattle.aip_rules.proofs.Publications.{of_publication}
+use Rattle.aip_rules.proofs.JustifiedBacked.{IsQuiet, AreBacked, Follow, quiet_follow, put_follows, still_backed, forwards_backed}
 use Rattle.aip_rules.proofs.JustifiedReasons.{found_name}
 use Rattle.aip_rules.proofs.JustifiedRouter.{delivering, router_follows}
 use Rattle.aip_rules.proofs.JustifiedHosts.{IsQuietReaction, put_quiet, shut_quiet, host_quiet, back_quiet}
@@ -97,6 +100,11 @@ halt_quiet : (seat : Option Seat) (call byte : ℕ) → IsQuietOutcome (halt_arm
 halt_quiet None call byte = tt
 halt_quiet (Some seat) call byte = unless ((call == 0) || (nat_lt 4 call || nat_le 256 byte)) fault.Range (Ok nothing) tt
 
+published_quiet : (tr : List Entry) (bytes : List ℕ) → IsQuietOutcome (published tr bytes)
+published_quiet tr bytes =
+    unless (nat_lt most_bytes (length bytes)) fault.Range (Ok (publishes (records_kept tr) bytes))
+    (of_publication IsQuiet (λ ad other number until. tt) (λ ad other number until. tt) (λ number. tt) (records_kept tr) bytes, tt)
+
 -- ---- deliveries
 
 -- what comes of an outcome follows the input
@@ -107,13 +115,14 @@ quiet_outcome : (topo : Topology) (tr : List Entry) (outcome : Result Reaction S
 quiet_outcome topo tr (Ok reaction) quiet = quiet_follow topo tr reaction.events quiet
 quiet_outcome topo tr (Err f) quiet = tt
 
-module _ (topo : Topology) (tr : List Entry) (backed : AreBacked topo tr) (number : ℕ) (flight : Flight) (put : flight_at tr number ≡ Some flight) where
+module _ (topo : Topology) (sound : IsSound topo) (tr : List Entry) (backed : AreBacked topo tr) (number : ℕ) (flight : Flight) (put : flight_at tr number ≡ Some flight) where
   at_place_follows : (name : List ℕ) (port : ℕ) → flight.target ≡ target.Port name port → (place : ℕ) → router_named topo.routers name ≡ Some place
       → (self : Option Router) → slice_get topo.routers place ≡ self → Follow topo (delivering tr number) (arrives_at_router topo tr place self port flight.bytes).events
   at_place_follows name port to place named None there = tt
   at_place_follows name port to place named (Some self) there =
       let name_is = found_name topo.routers name place self named there in
       router_follows topo tr number flight (record { place = place; self = self; port = port }) (record {
+        sound = sound;
         backed = backed;
         put = put;
         named = record { named = subst (λ n. router_named topo.routers n ≡ Some place) name_is named; there = there };
@@ -133,34 +142,34 @@ module _ (topo : Topology) (tr : List Entry) (backed : AreBacked topo tr) (numbe
   at_target_follows (target.Port name port) to = at_port_follows name port to (router_named topo.routers name) refl
   at_target_follows (target.Host name) to = at_seat_follows (seat_named (seats_of topo) name)
 
-delivered_follows : (topo : Topology) (tr : List Entry) (number : ℕ) → AreBacked topo tr → (flight : Option Flight) → flight_at tr number ≡ flight
+delivered_follows : (topo : Topology) → IsSound topo → (tr : List Entry) (number : ℕ) → AreBacked topo tr → (flight : Option Flight) → flight_at tr number ≡ flight
     → OutcomeFollows topo (delivering tr number) (delivered topo tr flight)
-delivered_follows topo tr number backed None put = tt
-delivered_follows topo tr number backed (Some flight) put = at_target_follows topo tr backed number flight put flight.target refl
+delivered_follows topo sound tr number backed None put = tt
+delivered_follows topo sound tr number backed (Some flight) put = at_target_follows topo sound tr backed number flight put flight.target refl
 
 -- ---- a step, and a trace
 
 -- what comes of an input follows it
-outcome_follows : (topo : Topology) (tr : List Entry) (input : Input) → AreBacked topo tr → OutcomeFollows topo (Taken input ∷ tr) (outcome_of topo tr input)
-outcome_follows topo tr (Deliver flight) backed = delivered_follows topo tr flight backed (flight_at tr flight) refl
-outcome_follows topo tr (Tick ticks) backed = quiet_outcome topo _ _ (unless ((ticks == 0) || nat_le (2 ^ 48) (now_of tr + ticks)) fault.Range (Ok nothing) tt)
-outcome_follows topo tr (Send host node packet body) backed =
+outcome_follows : (topo : Topology) → IsSound topo → (tr : List Entry) (input : Input) → AreBacked topo tr → OutcomeFollows topo (Taken input ∷ tr) (outcome_of topo tr input)
+outcome_follows topo sound tr (Deliver flight) backed = delivered_follows topo sound tr flight backed (flight_at tr flight) refl
+outcome_follows topo sound tr (Tick ticks) backed = quiet_outcome topo _ _ (unless ((ticks == 0) || nat_le (2 ^ 48) (now_of tr + ticks)) fault.Range (Ok nothing) tt)
+outcome_follows topo sound tr (Send host node packet body) backed =
     quiet_outcome topo _ _ (sent_quiet topo tr (seat_named (seats_of topo) host) (address_named topo node) packet body)
-outcome_follows topo tr (Raw host bytes) backed = quiet_outcome topo _ _ (raw_quiet topo tr (seat_named (seats_of topo) host) bytes)
-outcome_follows topo tr (Inject to bytes) backed = quiet_outcome topo _ _ (injected_quiet topo to bytes)
-outcome_follows topo tr (Cut link) backed = quiet_outcome topo _ _ (where_allowed (nat_lt link (length (links_of topo))) fault.Range (Ok nothing) tt)
-outcome_follows topo tr (Mend link) backed = quiet_outcome topo _ _ (where_allowed (nat_lt link (length (links_of topo))) fault.Range (Ok nothing) tt)
-outcome_follows topo tr (Shutoff host flight ttl) backed =
+outcome_follows topo sound tr (Raw host bytes) backed = quiet_outcome topo _ _ (raw_quiet topo tr (seat_named (seats_of topo) host) bytes)
+outcome_follows topo sound tr (Inject to bytes) backed = quiet_outcome topo _ _ (injected_quiet topo to bytes)
+outcome_follows topo sound tr (Cut link) backed = quiet_outcome topo _ _ (where_allowed (nat_lt link (length (links_of topo))) fault.Range (Ok nothing) tt)
+outcome_follows topo sound tr (Mend link) backed = quiet_outcome topo _ _ (where_allowed (nat_lt link (length (links_of topo))) fault.Range (Ok nothing) tt)
+outcome_follows topo sound tr (Shutoff host flight ttl) backed =
     quiet_outcome topo _ _ (shut_off_quiet topo tr (seat_named (seats_of topo) host) (flight_at tr flight) ttl)
-outcome_follows topo tr (Restart node) backed =
+outcome_follows topo sound tr (Restart node) backed =
     quiet_outcome topo _ _ (restarted_quiet topo tr (seat_named (seats_of topo) node) (router_named topo.routers node))
-outcome_follows topo tr (Stop host call byte) backed = quiet_outcome topo _ _ (armed_quiet topo (seat_named (seats_of topo) host) call byte)
-outcome_follows topo tr (Halt host call byte) backed = quiet_outcome topo _ _ (halt_quiet (seat_named (seats_of topo) host) call byte)
-outcome_follows topo tr (Publish bytes) backed = quiet_outcome topo _ _ (unless (nat_lt most_bytes (length bytes)) fault.Range (Ok still_to_come) tt)
+outcome_follows topo sound tr (Stop host call byte) backed = quiet_outcome topo _ _ (armed_quiet topo (seat_named (seats_of topo) host) call byte)
+outcome_follows topo sound tr (Halt host call byte) backed = quiet_outcome topo _ _ (halt_quiet (seat_named (seats_of topo) host) call byte)
+outcome_follows topo sound tr (Publish bytes) backed = quiet_outcome topo _ _ (published_quiet tr bytes)
 
 -- the events of a step keep a trace backed
-step_backed : (topo : Topology) (tr : List Entry) (input : Input) → AreBacked topo tr → IfOk (step_of topo tr input) (λ events. AreBacked topo (after_step tr input events))
-step_backed topo tr input backed = by (nat_le most_inputs (input_count tr)) (outcome_of topo tr input) (outcome_follows topo tr input backed)
+step_backed : (topo : Topology) → IsSound topo → (tr : List Entry) (input : Input) → AreBacked topo tr → IfOk (step_of topo tr input) (λ events. AreBacked topo (after_step tr input events))
+step_backed topo sound tr input backed = by (nat_le most_inputs (input_count tr)) (outcome_of topo tr input) (outcome_follows topo sound tr input backed)
   where
     by : (many : Bool) (outcome : Result Reaction StepFault) → OutcomeFollows topo (Taken input ∷ tr) outcome
         → IfOk (events_of tr (refused_if many fault.Many outcome)) (λ events. AreBacked topo (after_step tr input events))
@@ -171,9 +180,9 @@ step_backed topo tr input backed = by (nat_le most_inputs (input_count tr)) (out
         (put_follows topo (Taken input ∷ tr) reaction.events (flight_count tr) reaction.put follows)
 
 -- a trace that the rules give from a backed one is backed
-trace_backed : (topo : Topology) (inputs : List Input) (tr end : List Entry) → AreBacked topo tr → trace_from topo tr inputs ≡ Some end → AreBacked topo end
-trace_backed topo [] tr end backed e = let same : tr ≡ end = cc in subst (AreBacked topo) same backed
-trace_backed topo (input ∷ inputs) tr end backed e = by (step_of topo tr input) (step_backed topo tr input backed) e (λ events. trace_backed topo inputs (after_step tr input events) end)
+trace_backed : (topo : Topology) → IsSound topo → (inputs : List Input) (tr end : List Entry) → AreBacked topo tr → trace_from topo tr inputs ≡ Some end → AreBacked topo end
+trace_backed topo sound [] tr end backed e = let same : tr ≡ end = cc in subst (AreBacked topo) same backed
+trace_backed topo sound (input ∷ inputs) tr end backed e = by (step_of topo tr input) (step_backed topo sound tr input backed) e (λ events. trace_backed topo sound inputs (after_step tr input events) end)
   where
     by : (step : Result (List Event) StepFault) → IfOk step (λ events. AreBacked topo (after_step tr input events))
         → goes_on step (λ events. trace_from topo (after_step tr input events) inputs) ≡ Some end
@@ -183,4 +192,4 @@ trace_backed topo (input ∷ inputs) tr end backed e = by (step_of topo tr input
     by (Err f) after goes more = absurd cc
 
 pub justified : HoldsOfAll ForwardsAreJustified
-justified = λ topo sound inputs tr given. forwards_backed topo tr (trace_backed topo inputs [] tr tt given)
+justified = λ topo sound inputs tr given. forwards_backed topo tr (trace_backed topo sound inputs [] tr tt given)

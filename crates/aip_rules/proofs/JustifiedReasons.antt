@@ -1,6 +1,5 @@
 -- Why a verdict may be to forward, and what the tests of kinds, addresses and names say.
 use Rattle.std.proofs.Common.{◌≡◌, ℕ, Bool, true, false, cond, List, Option, Some, None, refl, sym, ap, subst, ◌∙◌, true≢false, get_or}
-use Rattle.std.proofs.lemmas.Bool.{and_parts, eqb-true}
 use Rattle.std.proofs.lemmas.List.Quantifiers.{position-Some}
 use Rattle.std.proofs.lemmas.Option.{get_or_from_slice_get}
 use Rattle.std.proofs.lemmas.Slice.Eq.{bytes_eq-Decides}
@@ -13,6 +12,7 @@ use Rattle.aip_frame.specs.declared.frame.Kind.TheVariants.{Data, Challenge, Res
 use Rattle.aip_event.specs.declared.event.Cause.{Cause}
 use Rattle.first_hop.specs.Verdict.{host_verdict}
 use Rattle.border_check.specs.Verdict.{port_verdict, leads_back}
+use Rattle.aip_registry.specs.declared.records.Record.{Record}
 use Rattle.aip_topo.specs.declared.topology.Router.{Router}
 use Rattle.aip_topo.specs.declared.topology.Topology.{Topology}
 use Rattle.aip_rules.specs.declared.Entry.{Entry}
@@ -20,63 +20,55 @@ use Rattle.aip_rules.specs.declared.Neighbour.{Neighbour}
 use Rattle.aip_rules.specs.declared.Neighbour.TheVariants as neighbour
 use Rattle.aip_rules.specs.declared.Reaction.{Reaction}
 use Rattle.aip_rules.specs.Nodes.{router_named, is_same_address}
-use Rattle.aip_rules.specs.Router.{Arrival, Forwards, is_of_domain, trusts, of_host, of_border, verdict_by, is_challenge, is_response}
-use Rattle.aip_rules.specs.Promises.{HasTrustedEnd, IsLink, IsTrusted}
+use Rattle.aip_rules.specs.Records.{trusts}
+use Rattle.aip_rules.specs.Router.{Arrival, Forwards, of_host, of_border, verdict_by, is_challenge, is_response}
+use Rattle.aip_rules.specs.Promises.{IsLink}
 use Rattle.aip_rules.proofs.JustifiedBacked.{IsRouterNamed, Follow}
 
 -- ---- the causes
 
--- why a verdict may be to forward, by what lies at the port
-pub data Reasons (topo : Topology) (self : Router) (at : Option Neighbour) (back : Option ℕ) (port : ℕ) (fresh wild : Bool) : Type 0 where
-  Trusted : IsTrusted topo self at → Reasons topo self at back port fresh wild
-  Reverse : IsLink at → back ≡ Some port → Reasons topo self at back port fresh wild
-  Fresh : fresh ≡ true → Reasons topo self at back port fresh wild
-  FreshDomain : IsLink at → wild ≡ true → Reasons topo self at back port fresh wild
+-- a link lies there, and its other end passes the test of trust
+abbrev pub PassesTrust : Topology → List Record → (now : ℕ) → Router → Option Neighbour → Type 0
+PassesTrust topo kept now self None = ⊥
+PassesTrust topo kept now self (Some (neighbour.Host name)) = ⊥
+PassesTrust topo kept now self (Some (neighbour.Link other far marked)) = trusts topo kept now self other marked ≡ true
 
-at_host_port : (topo : Topology) (at : Arrival) (name : List ℕ) (back : Option ℕ) (foreign fresh wild : Bool) (why : Cause)
-    → of_host at.port (host_verdict foreign fresh) ≡ Forwards why → Reasons topo at.self (Some (neighbour.Host name)) back at.port fresh wild
-at_host_port topo at name back true fresh wild why e = absurd cc
-at_host_port topo at name back false true wild why e = Fresh refl
-at_host_port topo at name back false false wild why e = absurd cc
+-- why a verdict may be to forward, by what lies at the port
+pub data Reasons (topo : Topology) (kept : List Record) (now : ℕ) (self : Router) (at : Option Neighbour) (back : Option ℕ) (port : ℕ) (fresh wild : Bool) : Type 0 where
+  Trusted : PassesTrust topo kept now self at → Reasons topo kept now self at back port fresh wild
+  Reverse : IsLink at → back ≡ Some port → Reasons topo kept now self at back port fresh wild
+  Fresh : fresh ≡ true → Reasons topo kept now self at back port fresh wild
+  FreshDomain : IsLink at → wild ≡ true → Reasons topo kept now self at back port fresh wild
+
+at_host_port : (topo : Topology) (kept : List Record) (now : ℕ) (at : Arrival) (name : List ℕ) (back : Option ℕ) (foreign fresh wild : Bool) (why : Cause)
+    → of_host at.port (host_verdict foreign fresh) ≡ Forwards why → Reasons topo kept now at.self (Some (neighbour.Host name)) back at.port fresh wild
+at_host_port topo kept now at name back true fresh wild why e = absurd cc
+at_host_port topo kept now at name back false true wild why e = Fresh refl
+at_host_port topo kept now at name back false false wild why e = absurd cc
 
 -- where a port leads back, it is the port towards the source
 led_back : (back : Option ℕ) (port : ℕ) → leads_back back port ≡ true → back ≡ Some port
 led_back None port t = absurd (true≢false (sym t))
 led_back (Some back) port t = ap Some ((unsigned_Decides back port).0 t)
 
--- a neighbour that is trusted stands over a marked end, and is of the router's domain
-trusted_end : (topo : Topology) (self : Router) (other : ℕ) (marked : Bool) → trusts topo self other marked ≡ true → HasTrustedEnd topo self other marked
-trusted_end topo self other marked t =
-    let parts = and_parts marked (is_of_domain (slice_get topo.routers other) self.domain) t in
-    by (slice_get topo.routers other) refl parts.1
-  where
-    by : (found : Option Router) → slice_get topo.routers other ≡ found → is_of_domain found self.domain ≡ true → HasTrustedEnd topo self other marked
-    by None there of = absurd (true≢false (sym of))
-    by (Some router) there of = record {
-      is_marked = (and_parts marked (is_of_domain (slice_get topo.routers other) self.domain) t).0;
-      neighbour = router;
-      there = there;
-      one_domain = eqb-true router.domain self.domain of;
-    }
-
-at_link_port : (topo : Topology) (at : Arrival) (other far : ℕ) (marked : Bool) (back : Option ℕ) (trusted reverse fresh wild : Bool) (why : Cause)
-    → (trusted ≡ true → HasTrustedEnd topo at.self other marked) → (reverse ≡ true → back ≡ Some at.port)
+at_link_port : (topo : Topology) (kept : List Record) (now : ℕ) (at : Arrival) (other far : ℕ) (marked : Bool) (back : Option ℕ) (trusted reverse fresh wild : Bool) (why : Cause)
+    → (trusted ≡ true → trusts topo kept now at.self other marked ≡ true) → (reverse ≡ true → back ≡ Some at.port)
     → of_border back (port_verdict trusted reverse fresh wild) ≡ Forwards why
-    → Reasons topo at.self (Some (neighbour.Link other far marked)) back at.port fresh wild
-at_link_port topo at other far marked back true reverse fresh wild why t r e = Trusted (t refl)
-at_link_port topo at other far marked back false true fresh wild why t r e = Reverse tt (r refl)
-at_link_port topo at other far marked back false false true wild why t r e = Fresh refl
-at_link_port topo at other far marked back false false false true why t r e = FreshDomain tt refl
-at_link_port topo at other far marked back false false false false why t r e = absurd cc
+    → Reasons topo kept now at.self (Some (neighbour.Link other far marked)) back at.port fresh wild
+at_link_port topo kept now at other far marked back true reverse fresh wild why t r e = Trusted (t refl)
+at_link_port topo kept now at other far marked back false true fresh wild why t r e = Reverse tt (r refl)
+at_link_port topo kept now at other far marked back false false true wild why t r e = Fresh refl
+at_link_port topo kept now at other far marked back false false false true why t r e = FreshDomain tt refl
+at_link_port topo kept now at other far marked back false false false false why t r e = absurd cc
 
 -- a verdict to forward has one of the reasons
-pub reasoned : (topo : Topology) (at : Arrival) (there : Option Neighbour) (source : Address) (back : Option ℕ) (fresh wild : Bool) (why : Cause)
-    → verdict_by topo at there source back fresh wild ≡ Forwards why → Reasons topo at.self there back at.port fresh wild
-reasoned topo at None source back fresh wild why e = absurd cc
-reasoned topo at (Some (neighbour.Host name)) source back fresh wild why e = at_host_port topo at name back _ fresh wild why e
-reasoned topo at (Some (neighbour.Link other far marked)) source back fresh wild why e =
-    at_link_port topo at other far marked back (trusts topo at.self other marked) (leads_back back at.port) fresh wild why
-    (trusted_end topo at.self other marked) (led_back back at.port) e
+pub reasoned : (topo : Topology) (kept : List Record) (now : ℕ) (at : Arrival) (there : Option Neighbour) (source : Address) (back : Option ℕ) (fresh wild : Bool) (why : Cause)
+    → verdict_by topo kept now at there source back fresh wild ≡ Forwards why → Reasons topo kept now at.self there back at.port fresh wild
+reasoned topo kept now at None source back fresh wild why e = absurd cc
+reasoned topo kept now at (Some (neighbour.Host name)) source back fresh wild why e = at_host_port topo kept now at name back _ fresh wild why e
+reasoned topo kept now at (Some (neighbour.Link other far marked)) source back fresh wild why e =
+    at_link_port topo kept now at other far marked back (trusts topo kept now at.self other marked) (leads_back back at.port) fresh wild why
+    (λ t. t) (led_back back at.port) e
 
 -- ---- tests of kinds, addresses and names
 

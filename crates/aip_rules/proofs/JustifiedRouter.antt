@@ -22,23 +22,29 @@ use Rattle.verify_packet.specs.declared.responses.Checked.TheVariants as checked
 use Rattle.verify_packet.specs.Response.{response_verdict}
 use Rattle.aip_topo.specs.declared.topology.Router.{Router}
 use Rattle.aip_topo.specs.declared.topology.Topology.{Topology}
+use Rattle.aip_topo.specs.Sound.{IsSound}
 use Rattle.aip_rules.specs.declared.Entry.{Entry}
 use Rattle.aip_rules.specs.declared.Entry.TheVariants.{Taken, Happened}
 use Rattle.aip_rules.specs.declared.Flight.{Flight}
+use Rattle.aip_rules.specs.declared.Neighbour.{Neighbour}
+use Rattle.aip_rules.specs.declared.Neighbour.TheVariants as neighbour
 use Rattle.aip_rules.specs.State.{now_of, flight_at}
 use Rattle.aip_rules.specs.Nodes.{neighbour_at, is_same_address}
 use Rattle.aip_rules.specs.Routes.{port_to}
 use Rattle.aip_rules.specs.Reaction.{dropped}
 use Rattle.aip_rules.specs.Accepted.{limits_of, pair_uses, wildcard_uses}
+use Rattle.aip_rules.specs.Records.{records_kept, trusts}
 use Rattle.aip_rules.specs.Router.{Arrival, Verdict, Forwards, Foreign, Asks, router_key, forwarded, verdict_at, by_verdict, is_challenge, passed, is_link, makes_wildcard, responded, is_response, own_frame, frame_at_router, taken_at_router}
-use Rattle.aip_rules.specs.Promises.{IsAtRouter, IsProof, Answered, ManyAnswered, Justified, ByTrust, ByReversePath, ByAnswer, ByWildcard}
+use Rattle.aip_rules.specs.Promises.{IsAtRouter, IsProof, IsTrusted, Answered, ManyAnswered, Justified, ByTrust, ByReversePath, ByAnswer, ByWildcard}
 use Rattle.aip_rules.proofs.JustifiedBacked.{IsRouterNamed, ProofIsBacked, WildcardIsBacked, AreBacked, Follow}
 use Rattle.aip_rules.proofs.JustifiedProofs.{valid_response}
-use Rattle.aip_rules.proofs.JustifiedReasons.{Reasons, Trusted, Reverse, Fresh, FreshDomain, reasoned, challenges, responses, same_addresses, same_router, either_follows}
+use Rattle.aip_rules.proofs.JustifiedReasons.{PassesTrust, Reasons, Trusted, Reverse, Fresh, FreshDomain, reasoned, challenges, responses, same_addresses, same_router, either_follows}
 use Rattle.aip_rules.proofs.JustifiedUses.{fresh_answered, fresh_made, enough_answered}
+use Rattle.aip_rules.proofs.Trusting.{trusted_end}
 
 -- a flight that was put arrives at a router, on a backed trace
 pub record Arrives (topo : Topology) (tr : List Entry) (number : ℕ) (flight : Flight) (at : Arrival) : Type 0 where
+  pub sound : IsSound topo
   pub backed : AreBacked topo tr
   pub put : flight_at tr number ≡ Some flight
   pub named : IsRouterNamed topo at.self.name at.place at.self
@@ -57,11 +63,19 @@ module _ (topo : Topology) (tr : List Entry) (number : ℕ) (flight : Flight) (a
   abbrev IsJust : Type 0
   IsJust = Justified topo at.place at.self (delivering tr number) frame.from at.port
 
+  -- a neighbour that passes the test of trust is trusted
+  trusted_so : (there : Option Neighbour) → PassesTrust topo (records_kept tr) (now_of tr) at.self there → IsTrusted topo (delivering tr number) at.self there
+  trusted_so None t = t
+  trusted_so (Some (neighbour.Host name)) t = t
+  trusted_so (Some (neighbour.Link other far marked)) t =
+      trusted_end topo here.sound (delivering tr number) at.place at.self here.named.there other marked
+      (subst (λ n. trusts topo (records_kept tr) n at.self other marked ≡ true) (sym (same_now tr number)) t)
+
   -- a reason to forward justifies it
-  just : Reasons topo at.self (neighbour_at topo at.place at.port) (port_to topo tr at.place at.self frame.from) at.port
+  just : Reasons topo (records_kept tr) (now_of tr) at.self (neighbour_at topo at.place at.port) (port_to topo tr at.place at.self frame.from) at.port
       (is_fresh_pair (limits_of topo.settings) (pair_uses tr at.self.name) (now_of tr) (pair_of frame.from at.port))
       (is_fresh_wildcard (limits_of topo.settings) (wildcard_uses tr at.self.name) (now_of tr) (wildcard_of frame.from.ad at.port)) → IsJust
-  just (Trusted trusted) = ByTrust trusted
+  just (Trusted trusted) = ByTrust (trusted_so (neighbour_at topo at.place at.port) trusted)
   just (Reverse link back) = ByReversePath link back
   just (Fresh fresh) =
       ByAnswer (subst (λ n. Answered topo at.place at.self (delivering tr number) frame.from at.port n) (sym (same_now tr number))
@@ -94,7 +108,7 @@ module _ (topo : Topology) (tr : List Entry) (number : ℕ) (flight : Flight) (a
 
   verdict_follows : (out : ℕ) (verdict : Verdict) → verdict_at topo tr at frame.from ≡ verdict
       → Follow topo (delivering tr number) (by_verdict topo (router_key topo tr at.place at.self) (now_of tr) at frame out verdict).events
-  verdict_follows out (Forwards why) e = forwards out why (λ checking kind. just (reasoned topo at _ frame.from _ _ _ why e))
+  verdict_follows out (Forwards why) e = forwards out why (λ checking kind. just (reasoned topo (records_kept tr) (now_of tr) at _ frame.from _ _ _ why e))
   verdict_follows out Foreign e = (tt, tt)
   verdict_follows out (Asks None) e = (tt, tt)
   verdict_follows out (Asks (Some back)) e = (tt, tt)

@@ -1,6 +1,7 @@
 pub mod Sizes
 pub mod Signed
 pub mod Modest
+pub mod Publications
 pub mod PutsHost
 pub mod PutsRouter
 pub mod Puts
@@ -18,6 +19,8 @@ pub mod Leaves
 pub mod JustifiedBacked
 pub mod JustifiedSources
 pub mod JustifiedUses
+pub mod Peerings
+pub mod Trusting
 pub mod JustifiedReasons
 pub mod JustifiedProofs
 pub mod JustifiedRouter

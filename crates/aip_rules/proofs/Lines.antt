@@ -8,14 +8,13 @@ use Rattle.aip_topo.specs.declared.topology.Topology.{Topology}
 use Rattle.aip_rules.specs.declared.Entry.{Entry}
 use Rattle.aip_rules.specs.declared.StepFault.{StepFault}
 use Rattle.aip_rules.specs.declared.StepFault.TheVariants as fault
-use Rattle.aip_rules.specs.Step.{is_built, step_of, after_step, trace_from, goes_on}
-use Rattle.aip_rules.specs.Texts.{Ending, Done, Topology_refused, Schedule_refused, Topology_unbuilt, Input_unbuilt, Ran, scheduled, input_or_form, by_step, by_input, by_line, ran_from, lines_before, inputs_in_line, inputs_in, IsTraceOfLines}
+use Rattle.aip_rules.specs.Step.{step_of, after_step, trace_from, goes_on}
+use Rattle.aip_rules.specs.Texts.{Ending, Done, Topology_refused, Schedule_refused, Topology_unbuilt, Ran, scheduled, input_or_form, by_step, by_line, ran_from, lines_before, inputs_in_line, inputs_in, IsTraceOfLines}
 
 -- the run ends at a line from this one on, or at none
 abbrev pub EndsFrom : ℕ → Ending → Type 0
 EndsFrom number Done = Unit {0}
 EndsFrom number (Schedule_refused line f) = number ≤ line
-EndsFrom number (Input_unbuilt line) = number ≤ line
 EndsFrom number (Topology_refused line f) = ⊥
 EndsFrom number Topology_unbuilt = ⊥
 
@@ -34,17 +33,11 @@ refused_at : (topo : Topology) (tr : List Entry) (number : ℕ) (lines : List (L
     → IsOfLines topo tr number lines (record { trace = tr; ending = Schedule_refused number f })
 refused_at topo tr number lines f = record { ends = omega arith; trace = at_once topo tr number lines }
 
-unbuilt_at : (topo : Topology) (tr : List Entry) (number : ℕ) (lines : List (List ℕ))
-    → IsOfLines topo tr number lines (record { trace = tr; ending = Input_unbuilt number })
-unbuilt_at topo tr number lines = record { ends = omega arith; trace = at_once topo tr number lines }
-
 -- the lines before the end, where the first is before it
 first_before : (number : ℕ) (ending : Ending) (line : List ℕ) (lines : List (List ℕ)) → EndsFrom (number + 1) ending
     → lines_before number ending (line ∷ lines) ≡ line ∷ lines_before (number + 1) ending lines
 first_before number Done line lines h = refl
 first_before number (Schedule_refused at f) line lines h =
-    let more : at - number ≡ suc (at - (number + 1)) = omega arith in ap (λ n. take n (line ∷ lines)) more
-first_before number (Input_unbuilt at) line lines h =
     let more : at - number ≡ suc (at - (number + 1)) = omega arith in ap (λ n. take n (line ∷ lines)) more
 first_before number (Topology_refused at f) line lines h = absurd h
 first_before number Topology_unbuilt line lines h = absurd h
@@ -52,7 +45,6 @@ first_before number Topology_unbuilt line lines h = absurd h
 earlier : (number : ℕ) (ending : Ending) → EndsFrom (number + 1) ending → EndsFrom number ending
 earlier number Done h = tt
 earlier number (Schedule_refused at f) h = omega arith
-earlier number (Input_unbuilt at) h = omega arith
 earlier number (Topology_refused at f) h = h
 earlier number Topology_unbuilt h = h
 
@@ -117,19 +109,12 @@ module _ (topo : Topology) (tr : List Entry) (number : ℕ) (line : List ℕ) (l
       with_line topo tr (after_step tr input events) number line lines (go (after_step tr input events)) (goes_with topo tr line input events shown read e) (more (after_step tr input events))
   by_taken input shown read (Err f) e = refused_at topo tr number (line ∷ lines) f
 
-  by_read : (input : Input) → is_skipped line ≡ false → input_of line ≡ Some input → IsOfLines topo tr number (line ∷ lines) (by_input topo tr number go input)
-  by_read input shown read =
-      elim (is_built input) as (λ b. IsOfLines topo tr number (line ∷ lines) (cond b (by_step tr number input go (step_of topo tr input)) (record { trace = tr; ending = Input_unbuilt number }))) [
-        | true ↦ by_taken input shown read (step_of topo tr input) refl
-        | false ↦ unbuilt_at topo tr number (line ∷ lines)
-      ]
-
   by_scheduled : (found : Result (Option Input) StepFault) → scheduled number line ≡ found → IsOfLines topo tr number (line ∷ lines) (by_line topo tr number go found)
   by_scheduled (Err f) e = refused_at topo tr number (line ∷ lines) f
   by_scheduled (Ok None) e =
       with_line topo tr tr number line lines (go tr) (goes_past topo tr line (skipped_by _ _ _ _ (input_of line) e)) (more tr)
   by_scheduled (Ok (Some input)) e =
-      let is = input_by _ _ _ (is_skipped line) (input_of line) input e in by_read input is.0 is.1
+      let is = input_by _ _ _ (is_skipped line) (input_of line) input e in by_taken input is.0 is.1 (step_of topo tr input) refl
 
 of_from : (topo : Topology) (tr : List Entry) (number : ℕ) (lines : List (List ℕ)) → IsOfLines topo tr number lines (ran_from topo tr number lines)
 of_from topo tr number [] = record { ends = tt; trace = refl }

@@ -21,12 +21,14 @@ use Rattle.aip_rules.specs.declared.StepFault.TheVariants as fault
 use Rattle.aip_rules.specs.State.{flight_at, now_of, input_count, frame_in}
 use Rattle.aip_rules.specs.Nodes.{seats_of, seat_named, router_named, address_named, neighbours_of, links_of, key_named}
 use Rattle.aip_rules.specs.Reaction.{nothing}
+use Rattle.aip_rules.specs.Records.{publishes, records_kept}
 use Rattle.aip_rules.specs.Standing.{standing}
 use Rattle.aip_rules.specs.Host.{sent_frame}
 use Rattle.aip_rules.specs.Step.{most_bytes, most_inputs, can_be_put, sent, put_raw, arrives_at_router, arrives_at_port, arrives_at_seat, arrives, delivered, injected_at_port, injected_at_host, injected, relinked, shut_with, shut_named, shut_off, restarted, has_key, stop_armed, halt_armed, published, outcome_of, reaction_of}
 use Rattle.aip_rules.specs.Laws.{InputsPutAtMostOne}
 use Rattle.aip_rules.proofs.Sizes.{IsSizedAddress, HasSizedAddress, HasSized, seat_sized, address_sized, router_at_sized, fitting_short}
-use Rattle.aip_rules.proofs.Modest.{IsModest, IsModestOutcome, nothing_modest, puts_modest, unless, where_allowed, events_put}
+use Rattle.aip_rules.proofs.Publications.{of_publication}
+use Rattle.aip_rules.proofs.Modest.{IsCalm, IsModest, IsModestOutcome, nothing_modest, happens_modest, puts_modest, unless, where_allowed, events_put}
 use Rattle.aip_rules.proofs.PutsHost.{put_by_modest, shut_by_modest, at_host_modest, back_up_modest}
 use Rattle.aip_rules.proofs.PutsRouter.{at_router_modest}
 
@@ -144,8 +146,10 @@ halt_modest None call byte = tt
 halt_modest (Some seat) call byte =
     unless ((call == 0) || (nat_lt 4 call || nat_le 256 byte)) fault.Range (Ok nothing) (λ e. nothing_modest)
 
-published_modest : (bytes : List ℕ) → IsModestOutcome (published bytes)
-published_modest bytes = unless (nat_lt most_bytes (length bytes)) fault.Range (Ok nothing) (λ e. nothing_modest)
+published_modest : (tr : List Entry) (bytes : List ℕ) → IsModestOutcome (published tr bytes)
+published_modest tr bytes =
+    unless (nat_lt most_bytes (length bytes)) fault.Range (Ok (publishes (records_kept tr) bytes))
+    (λ e. happens_modest _ (of_publication IsCalm (λ ad other number until. refl) (λ ad other number until. refl) (λ number. refl) (records_kept tr) bytes))
 
 -- what comes of an input is modest
 pub outcome_modest : (topo : Topology) (tr : List Entry) (input : Input) → IsSound topo → IsModestOutcome (outcome_of topo tr input)
@@ -162,7 +166,7 @@ outcome_modest topo tr (Shutoff host flight ttl) sound =
 outcome_modest topo tr (Restart node) sound = restarted_modest topo tr (seat_named (seats_of topo) node) (router_named topo.routers node)
 outcome_modest topo tr (Stop host call byte) sound = armed_modest topo (seat_named (seats_of topo) host) call byte
 outcome_modest topo tr (Halt host call byte) sound = halt_modest (seat_named (seats_of topo) host) call byte
-outcome_modest topo tr (Publish bytes) sound = published_modest bytes
+outcome_modest topo tr (Publish bytes) sound = published_modest tr bytes
 
 pub at_most_one : InputsPutAtMostOne
 at_most_one = λ topo sound tr input.

@@ -30,8 +30,10 @@ use Rattle.aip_rules.specs.Nodes.{seats_of, seat_named, router_named, address_na
 use Rattle.aip_rules.specs.Reaction.{nothing, happens, puts, behind}
 use Rattle.aip_rules.specs.Standing.{standing, lets_act, reaches_host, is_host_target, next_leaf}
 use Rattle.aip_rules.specs.Host.{hearing, handed_down, sent_frame, put_by, shut_by, at_host, back_up}
-use Rattle.aip_rules.specs.Step.{most_bytes, can_be_put, sent, put_raw, arrives_at_router, arrives_at_port, arrives_at_seat, arrives, delivered, injected_at_port, injected_at_host, injected, shut_with, shut_named, shut_off, restarted, has_key, stop_armed, halt_armed, outcome_of}
-use Rattle.aip_rules.proofs.SilentEvents.{ArePlain, unless_refused, where_taken}
+use Rattle.aip_rules.specs.Step.{most_bytes, can_be_put, sent, put_raw, arrives_at_router, arrives_at_port, arrives_at_seat, arrives, delivered, injected_at_port, injected_at_host, injected, shut_with, shut_named, shut_off, restarted, has_key, stop_armed, halt_armed, published, outcome_of}
+use Rattle.aip_rules.specs.Records.{publishes, records_kept}
+use Rattle.aip_rules.proofs.Publications.{of_publication}
+use Rattle.aip_rules.proofs.SilentEvents.{IsPlain, ArePlain, unless_refused, where_taken}
 use Rattle.aip_rules.proofs.SilentHosts.{by_put, by_shut, by_restart, by_arrival}
 use Rattle.aip_rules.proofs.SilentRouters.{IsPlainReaction, at_router_plain}
 
@@ -181,6 +183,12 @@ module _ (topo : Topology) (tr : List Entry) (input : Input) where
   halt_comes None call byte = tt
   halt_comes (Some seat) call byte = quiet_comes ((call == 0) || (nat_lt 4 call || nat_le 256 byte)) fault.Range
 
+  published_comes : (bytes : List ℕ) → IsCome (published tr bytes)
+  published_comes bytes =
+      unless_refused (Comes topo tr input) (nat_lt most_bytes (length bytes)) fault.Range (Ok (publishes (records_kept tr) bytes))
+      (Plainly (publishes (records_kept tr) bytes).events
+      (of_publication IsPlain (λ ad other number until. tt) (λ ad other number until. tt) (λ number. tt) (records_kept tr) bytes, tt))
+
 module _ (topo : Topology) (tr : List Entry) where
   -- what is delivered to a target
   target_comes : (k : ℕ) (flight : Flight) (to : Target) → flight_at tr k ≡ Some flight → flight.target ≡ to → Comes topo tr (Deliver k) (arrives topo tr to flight.bytes)
@@ -226,4 +234,4 @@ module _ (topo : Topology) (tr : List Entry) where
   outcome_comes (Restart node) = restart_comes topo tr (Restart node) (seat_named (seats_of topo) node) (router_named topo.routers node)
   outcome_comes (Stop host call byte) = stop_comes topo tr (Stop host call byte) (seat_named (seats_of topo) host) call byte
   outcome_comes (Halt host call byte) = halt_comes topo tr (Halt host call byte) (seat_named (seats_of topo) host) call byte
-  outcome_comes (Publish bytes) = quiet_comes topo tr (Publish bytes) (nat_lt most_bytes (length bytes)) fault.Range
+  outcome_comes (Publish bytes) = published_comes topo tr (Publish bytes) bytes

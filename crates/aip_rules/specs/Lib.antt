@@ -3,10 +3,11 @@ pub mod Nodes
 pub mod Routes
 pub mod Reaction
 pub mod Accepted
+pub mod Records
 pub mod Router
 pub mod Standing
 pub mod Host
 pub mod Step
 pub mod Texts
-pub mod Laws
 pub mod Promises
+pub mod Laws

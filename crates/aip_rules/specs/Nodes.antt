@@ -155,7 +155,7 @@ neighbours_after before (part ∷ parts) router =
     neighbours_by before part router ++ neighbours_after (part ∷ before) parts router
 
 -- what lies at the ports of a router, in the order of the ports: a host, or a link's end with the port at its other end
--- and whether this router trusts what comes over it
+-- and whether the end here is marked as trusted
 abbrev pub neighbours_of : Topology → ℕ → List Neighbour
 neighbours_of topo router = neighbours_after [] topo.parts router
 

@@ -1,6 +1,6 @@
 -- What holds of every trace that the rules give: each forward is justified, guards are silent, no leaf signs twice. Nothing
 -- here speaks of what a node keeps.
-use Rattle.std.specs.Prelude.{◌≡◌, ◌≢◌, ◌⊎◌, ⊤, ℕ, ◌+◌, ◌/◌, ◌<◌, ◌≤◌, Bool, true, false, List, [], ◌∷◌, length, slice_get, take, drop, All, Option, Some, None, Result, Ok, Err}
+use Rattle.std.specs.Prelude.{◌≡◌, ◌≢◌, ◌⊎◌, ⊤, ℕ, ◌+◌, ◌/◌, ◌<◌, ◌≤◌, Bool, true, false, List, [], ◌∷◌, ◌++◌, length, slice_get, slice_index, take, drop, All, Option, Some, None, Result, Ok, Err}
 use Rattle.aip_addr.specs.Ids.{Owns, key_id_of}
 use Rattle.aip_addr.specs.declared.ids.Id.{Id}
 use Rattle.aip_addr.specs.declared.ids.KeyId.{KeyId}
@@ -28,6 +28,7 @@ use Rattle.verify_packet.specs.Challenge.{asked_in}
 use Rattle.verify_packet.specs.Response.{challenge_in, key_in, response_text_of, signature_in}
 use Rattle.shutoff_filter.specs.Body.{order_in, shutoff_text_of}
 use Rattle.shutoff_filter.specs.Body as shutoff
+use Rattle.aip_registry.specs.Record.{fields_in, record_text_of, key_in as record_key_in, signature_in as record_signature_in}
 use Rattle.aip_rules.specs.declared.Entry.{Entry}
 use Rattle.aip_rules.specs.declared.Entry.TheVariants.{Taken, Happened}
 use Rattle.aip_rules.specs.declared.Flight.{Flight}
@@ -36,6 +37,7 @@ use Rattle.aip_rules.specs.declared.Neighbour.TheVariants as neighbour
 use Rattle.aip_rules.specs.State.{now_of, flight_at, is_restart_of, restarts_of, delivery, delivered_by}
 use Rattle.aip_rules.specs.Nodes.{neighbours_of, neighbour_at, router_named, key_named}
 use Rattle.aip_rules.specs.Routes.{port_to}
+use Rattle.aip_rules.specs.Records.{published_on}
 use Rattle.aip_rules.specs.Standing.{frames_put}
 use Rattle.aip_rules.specs.Step.{trace_of}
 use Rattle.aip_rules.specs.Texts.{ran_over}
@@ -48,18 +50,43 @@ IsLink None = ⊥
 IsLink (Some (neighbour.Host name)) = ⊥
 IsLink (Some (neighbour.Link other far marked)) = ⊤
 
--- the router's end of a link is marked as trusted, and the router at the other end is of its own domain
-pub record HasTrustedEnd (topo : Topology) (self : Router) (other : ℕ) (marked : Bool) : Type 0 where
+-- bytes are a peering record of one domain for another, signed by the first: they have at least 114 bytes, the version 1 and
+-- the kind 0, and name the two; and the key in them owns the first domain's id, and signed what they say
+pub record IsPeering (own other : Id) (bytes : List ℕ) : Type 0 where
+  pub long : 114 ≤ length bytes
+  pub version : slice_index bytes 0 ≡ 1
+  pub kind : slice_index bytes 1 ≡ 0
+  pub by : (fields_in bytes).ad ≡ own
+  pub names : (fields_in bytes).other ≡ other
+  pub owner : Owns (record_key_in bytes) own
+  pub signed : IsValidSignature (record_key_in bytes) (record_text_of (fields_in bytes)) (record_signature_in bytes)
+
+-- on a trace a domain holds another for its peer: the bytes of a peering record of the first for the second were published;
+-- of all such that were published, none later has a greater number, and each earlier one has a smaller; and the tick until
+-- which it is in force is still to come
+pub record HasPeer (tr : List Entry) (own other : Id) : Type 0 where
+  pub later : List (List ℕ)
+  pub bytes : List ℕ
+  pub earlier : List (List ℕ)
+  pub published : published_on tr ≡ later ++ (bytes ∷ earlier)
+  pub peering : IsPeering own other bytes
+  pub stands : All (λ after. IsPeering own other after → (fields_in after).number ≤ (fields_in bytes).number) later
+  pub replaces : All (λ before. IsPeering own other before → (fields_in before).number < (fields_in bytes).number) earlier
+  pub in_force : now_of tr < (fields_in bytes).until
+
+-- the router's end of a link is marked as trusted, and the router at the other end is of its own domain, or of one that its
+-- own domain holds for its peer
+pub record HasTrustedEnd (topo : Topology) (tr : List Entry) (self : Router) (other : ℕ) (marked : Bool) : Type 0 where
   pub is_marked : marked ≡ true
   pub neighbour : Router
   pub there : slice_get topo.routers other ≡ Some neighbour
-  pub one_domain : neighbour.domain ≡ self.domain
+  pub known : (neighbour.domain ≡ self.domain) ⊎ HasPeer tr self.address.ad neighbour.address.ad
 
 -- the router trusts what comes over the link at the port
-abbrev pub IsTrusted : Topology → Router → Option Neighbour → Type 0
-IsTrusted topo self None = ⊥
-IsTrusted topo self (Some (neighbour.Host name)) = ⊥
-IsTrusted topo self (Some (neighbour.Link other far marked)) = HasTrustedEnd topo self other marked
+abbrev pub IsTrusted : Topology → List Entry → Router → Option Neighbour → Type 0
+IsTrusted topo tr self None = ⊥
+IsTrusted topo tr self (Some (neighbour.Host name)) = ⊥
+IsTrusted topo tr self (Some (neighbour.Link other far marked)) = HasTrustedEnd topo tr self other marked
 
 -- the target is a port of the router
 abbrev pub IsAtRouter : Router → Target → Type 0
@@ -141,7 +168,7 @@ WildcardMade topo place self (Happened event ∷ tr) ad port now =
 -- why a checking router may forward a frame of this source that came by this port: its neighbour there is trusted; the port
 -- is the one towards the source; the source answered for the port; or a threshold of sources of its domain did
 pub data Justified (topo : Topology) (place : ℕ) (self : Router) (tr : List Entry) (source : Address) (port : ℕ) : Type 0 where
-  ByTrust : IsTrusted topo self (neighbour_at topo place port) → Justified topo place self tr source port
+  ByTrust : IsTrusted topo tr self (neighbour_at topo place port) → Justified topo place self tr source port
   ByReversePath : IsLink (neighbour_at topo place port) → port_to topo tr place self source ≡ Some port → Justified topo place self tr source port
   ByAnswer : Answered topo place self tr source port (now_of tr) → Justified topo place self tr source port
   ByWildcard : IsLink (neighbour_at topo place port) → WildcardMade topo place self tr source.ad port (now_of tr) → Justified topo place self tr source port

@@ -1,5 +1,5 @@
 -- What happens where a flight arrives at a router.
-use Rattle.std.specs.Prelude.{ℕ, ◌-◌, ◌==◌, ◌&&◌, Bool, true, false, not, if◌then◌else◌, nat_le, List, [], ◌∷◌, length, slice_get, Option, Some, None}
+use Rattle.std.specs.Prelude.{ℕ, ◌-◌, ◌&&◌, Bool, true, false, not, if◌then◌else◌, nat_le, List, [], ◌∷◌, length, Option, Some, None}
 use Rattle.aip_addr.specs.declared.ids.Address.{Address}
 use Rattle.aip_frame.specs.declared.frame.Frame.{Frame}
 use Rattle.aip_frame.specs.declared.frame.Kind.{Kind}
@@ -19,6 +19,7 @@ use Rattle.first_hop.specs.Verdict.{host_verdict}
 use Rattle.border_check.specs.declared.PortVerdict.{PortVerdict}
 use Rattle.border_check.specs.declared.PortVerdict.TheVariants as border
 use Rattle.border_check.specs.Verdict.{port_verdict, leads_back}
+use Rattle.aip_registry.specs.declared.records.Record.{Record}
 use Rattle.verify_packet.specs.declared.challenges.RouterKey.{RouterKey}
 use Rattle.verify_packet.specs.declared.responses.Checked.{Checked}
 use Rattle.verify_packet.specs.declared.responses.Checked.TheVariants as checked
@@ -34,6 +35,7 @@ use Rattle.aip_rules.specs.Nodes.{neighbours_of, neighbour_at, target_at, is_sam
 use Rattle.aip_rules.specs.Routes.{port_to}
 use Rattle.aip_rules.specs.Accepted.{limits_of, pair_uses, wildcard_uses}
 use Rattle.aip_rules.specs.Reaction.{dropped, happens, happens_and_puts}
+use Rattle.aip_rules.specs.Records.{records_kept, trusts}
 
 -- where a flight arrives: a router at its place among the routers, and its port
 pub record Arrival : Type 0 where
@@ -88,15 +90,6 @@ asked topo key now at frame None = dropped at.self.name reason.NoBack
 asked topo key now at frame (Some back) =
     happens_and_puts (event.Ask at.self.name at.port back) (target_at topo at.place back) (frame_bytes (challenge_frame key now at.port frame))
 
--- the router is of this domain
-abbrev pub is_of_domain : Option Router → ℕ → Bool
-is_of_domain None domain = false
-is_of_domain (Some router) domain = router.domain == domain
-
--- a router trusts its neighbour over a link whose end is marked: the two are of one domain
-abbrev pub trusts : Topology → Router → ℕ → Bool → Bool
-trusts topo self other marked = marked && is_of_domain (slice_get topo.routers other) self.domain
-
 -- what a checking router makes of a frame that it could forward
 pub data Verdict : Type 0 where
   Forwards : Cause → Verdict
@@ -118,19 +111,19 @@ of_border back border.Proved = Forwards cause.Proved
 of_border back border.Wild = Forwards cause.Wild
 of_border back border.Ask = Asks back
 
--- the verdict on the source of a frame, by what lies at the port at which it came, where the source and its domain are
--- fresh there or not
-abbrev pub verdict_by : Topology → Arrival → Option Neighbour → Address → Option ℕ → (fresh wild : Bool) → Verdict
-verdict_by topo at None source back fresh wild = Asks back
-verdict_by topo at (Some (neighbour.Host name)) source back fresh wild =
+-- the verdict on the source of a frame, by the records that are kept, the time, and what lies at the port at which it came,
+-- where the source and its domain are fresh there or not
+abbrev pub verdict_by : Topology → List Record → (now : ℕ) → Arrival → Option Neighbour → Address → Option ℕ → (fresh wild : Bool) → Verdict
+verdict_by topo kept now at None source back fresh wild = Asks back
+verdict_by topo kept now at (Some (neighbour.Host name)) source back fresh wild =
     of_host at.port (host_verdict (not (same_id source.ad at.self.address.ad)) fresh)
-verdict_by topo at (Some (neighbour.Link other far marked)) source back fresh wild =
-    of_border back (port_verdict (trusts topo at.self other marked) (leads_back back at.port) fresh wild)
+verdict_by topo kept now at (Some (neighbour.Link other far marked)) source back fresh wild =
+    of_border back (port_verdict (trusts topo kept now at.self other marked) (leads_back back at.port) fresh wild)
 
 -- the verdict on the source of a frame after a trace
 abbrev pub verdict_at : Topology → List Entry → Arrival → Address → Verdict
 verdict_at topo tr at source =
-    verdict_by topo at (neighbour_at topo at.place at.port) source (port_to topo tr at.place at.self source)
+    verdict_by topo (records_kept tr) (now_of tr) at (neighbour_at topo at.place at.port) source (port_to topo tr at.place at.self source)
     (is_fresh_pair (limits_of topo.settings) (pair_uses tr at.self.name) (now_of tr) (pair_of source at.port))
     (is_fresh_wildcard (limits_of topo.settings) (wildcard_uses tr at.self.name) (now_of tr) (wildcard_of source.ad at.port))
 

@@ -20,19 +20,11 @@ use Rattle.aip_rules.specs.declared.StepFault.TheVariants as fault
 use Rattle.aip_rules.specs.State.{now_of, input_count, flight_at, frame_in}
 use Rattle.aip_rules.specs.Nodes.{seats_of, seat_named, router_named, address_named, links_of, neighbours_of, key_named}
 use Rattle.aip_rules.specs.Reaction.{nothing, puts, events_on}
+use Rattle.aip_rules.specs.Records.{publishes, records_kept}
 use Rattle.aip_rules.specs.Router.{at_router}
 use Rattle.aip_rules.specs.Standing.{standing}
 use Rattle.aip_rules.specs.Host.{at_host, back_up, put_by, sent_frame, shut_by}
 use Rattle.lms_core.specs.Tree.{Key}
-
--- the inputs that are built: all but the publication of a record
-abbrev pub is_built : Input → Bool
-is_built (Publish bytes) = false
-is_built _ = true
-
--- what a publication comes to is still to come; no run takes one
-abbrev pub still_to_come : Reaction
-still_to_come = nothing
 
 -- the most bytes that are put at once
 abbrev pub most_bytes : ℕ
@@ -154,9 +146,9 @@ halt_armed None call byte = Err fault.Unknown
 halt_armed (Some seat) call byte =
     refused_if ((call == 0) || (nat_lt 4 call || nat_le 256 byte)) fault.Range (Ok nothing)
 
--- a record is published: it has no more bytes than can be put at once
-abbrev pub published : List ℕ → Result Reaction StepFault
-published bytes = refused_if (nat_lt most_bytes (length bytes)) fault.Range (Ok still_to_come)
+-- bytes are published after those of a trace: they are no more than can be put at once
+abbrev pub published : List Entry → List ℕ → Result Reaction StepFault
+published tr bytes = refused_if (nat_lt most_bytes (length bytes)) fault.Range (Ok (publishes (records_kept tr) bytes))
 
 -- what comes of an input, where one more may be taken: the first fault that applies, or a reaction
 abbrev pub outcome_of : Topology → List Entry → Input → Result Reaction StepFault
@@ -173,7 +165,7 @@ outcome_of topo tr (Shutoff host flight ttl) =
 outcome_of topo tr (Restart node) = restarted topo tr (seat_named (seats_of topo) node) (router_named topo.routers node)
 outcome_of topo tr (Stop host call byte) = stop_armed topo (seat_named (seats_of topo) host) call byte
 outcome_of topo tr (Halt host call byte) = halt_armed (seat_named (seats_of topo) host) call byte
-outcome_of topo tr (Publish bytes) = published bytes
+outcome_of topo tr (Publish bytes) = published tr bytes
 
 -- the most inputs of a trace
 abbrev pub most_inputs : ℕ

@@ -16,7 +16,7 @@ use Rattle.aip_rules.specs.declared.Entry.{Entry}
 use Rattle.aip_rules.specs.declared.Entry.TheVariants.{Taken, Happened}
 use Rattle.aip_rules.specs.declared.StepFault.{StepFault}
 use Rattle.aip_rules.specs.declared.StepFault.TheVariants as fault
-use Rattle.aip_rules.specs.Step.{is_built, step_of, after_step, trace_of}
+use Rattle.aip_rules.specs.Step.{step_of, after_step, trace_of}
 
 -- the number of a fault of a schedule line, as a refusal line writes it
 abbrev pub fault_number : StepFault → ℕ
@@ -64,14 +64,13 @@ scheduled number line =
     if is_skipped line then Ok None else
     input_or_form (input_of line)
 
--- how a run ends: the schedule is done, the topology or the schedule is refused at a line for a fault, or the topology
--- or an input on a line is outside of what is built
+-- how a run ends: the schedule is done, the topology or the schedule is refused at a line for a fault, or the topology is
+-- outside of what is built
 pub data Ending : Type 0 where
   Done : Ending
   Topology_refused : (line : ℕ) → TopoFault → Ending
   Schedule_refused : (line : ℕ) → StepFault → Ending
   Topology_unbuilt : Ending
-  Input_unbuilt : (line : ℕ) → Ending
 
 -- what a schedule comes to: the trace of the inputs before its end or its first refused line, and how it ends
 pub record Ran : Type 0 where
@@ -83,18 +82,11 @@ abbrev pub by_step : List Entry → ℕ → Input → (List Entry → Ran) → R
 by_step tr number input go (Ok events) = go (after_step tr input events)
 by_step tr number input go (Err f) = record { trace = tr; ending = Schedule_refused number f }
 
--- the run takes an input, and ends where it isn't built yet
-abbrev pub by_input : Topology → List Entry → ℕ → (List Entry → Ran) → Input → Ran
-by_input topo tr number go input =
-    if is_built input
-    then by_step tr number input go (step_of topo tr input)
-    else record { trace = tr; ending = Input_unbuilt number }
-
 -- the run takes a line: it ends where the line is refused, and goes on behind a skipped line
 abbrev pub by_line : Topology → List Entry → ℕ → (List Entry → Ran) → Result (Option Input) StepFault → Ran
 by_line topo tr number go (Err f) = record { trace = tr; ending = Schedule_refused number f }
 by_line topo tr number go (Ok None) = go tr
-by_line topo tr number go (Ok (Some input)) = by_input topo tr number go input
+by_line topo tr number go (Ok (Some input)) = by_step tr number input go (step_of topo tr input)
 
 -- the run of these lines, the first of which has this number, from a trace on
 abbrev pub ran_from : Topology → List Entry → ℕ → List (List ℕ) → Ran
@@ -126,7 +118,6 @@ ending_text (Schedule_refused line f) = refusal_line line f
 ending_text Done = []
 ending_text (Topology_refused line f) = []
 ending_text Topology_unbuilt = []
-ending_text (Input_unbuilt line) = []
 
 -- the text of a run: that of its trace, and the refusal line where there is one
 abbrev pub text_of_run : Ran → List ℕ
@@ -143,7 +134,6 @@ end_of topology schedule = (ran_over (topology_of topology) schedule).ending
 -- the lines of a schedule before the one that ends its run, where the first of them has this number
 abbrev pub lines_before : ℕ → Ending → List (List ℕ) → List (List ℕ)
 lines_before number (Schedule_refused line f) lines = take (line - number) lines
-lines_before number (Input_unbuilt line) lines = take (line - number) lines
 lines_before number Done lines = lines
 lines_before number (Topology_refused line f) lines = []
 lines_before number Topology_unbuilt lines = []

@@ -2,7 +2,7 @@
 
 ghost use Rattle.std.specs.Prelude.{ℕ, List};
 ghost use Rattle.aip_topo.specs.declared.topology.Topology.{Topology as Network};
-ghost use Rattle.aip_rules.specs.Laws.{InputsPutAtMostOne};
+ghost use Rattle.aip_rules.specs.Laws.{InputsPutAtMostOne, NeighboursAreTrustedRightly};
 ghost use Rattle.aip_rules.specs.Promises.{ForwardsAreJustified, GuardsAreSilent, HoldsOfAll, NoLeafSignsTwice};
 ghost use Rattle.aip_rules.specs.Texts.{IsTraceOfLines};
 
@@ -20,6 +20,15 @@ pub fn a_run_has_the_trace_of_its_lines()
 /// justified, unless that frame is a challenge.
 pub fn each_forward_is_justified()
     ensures { HoldsOfAll ForwardsAreJustified }
+{}
+
+/// Neighbours are trusted by signed records: on every trace over a sound topology, a frame that comes over a link is passed
+/// on for trust from a neighbour of the router's own domain exactly where the router's end of the link is marked; and from one
+/// of another domain exactly where its end is marked and a peering record of the router's domain for the neighbour's is kept
+/// and in force. That is so exactly where such a record, signed by the router's domain, was published, is in force, and
+/// is replaced by no other.
+pub fn neighbours_are_trusted_by_records()
+    ensures { NeighboursAreTrustedRightly }
 {}
 
 /// Guards are silent: on every trace over a sound topology, what a guarded host puts is no frame to a destination under a

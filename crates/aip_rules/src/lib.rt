@@ -21,7 +21,7 @@ use aip_addr::{Address, Bytes, Name};
 use aip_event::{Event, Events, Input, Target};
 pub use laws::{
     a_run_has_the_trace_of_its_lines, an_input_puts_at_most_one_flight, each_forward_is_justified,
-    guards_are_silent, no_leaf_signs_twice,
+    guards_are_silent, neighbours_are_trusted_by_records, no_leaf_signs_twice,
 };
 use thiserror::Error;
 
@@ -70,7 +70,7 @@ pub enum Neighbour {
         router: u16,
         /// The port of that router.
         port: u16,
-        /// Whether the router on this side trusts what comes over the link.
+        /// Whether the end of the router on this side is marked as trusted.
         trusted: bool,
     },
 }
