@@ -185,17 +185,17 @@ module _ (own other : Id) where
   -- where there is no newest, there is none
   none_found : (n : ℕ) (published : List (List ℕ)) → newest_peering published ≡ None → All (IsBelow n) published
   none_found n [] e = All-nil (IsBelow n)
-  none_found n (bytes ∷ earlier) e = by (is_peering bytes) refl (newest_peering earlier) refl e
+  none_found n (bytes ∷ earlier) e = by (is_peering bytes) refl (newest_peering earlier) e (none_found n earlier)
     where
-      by : (t : Bool) → is_peering bytes ≡ t → (o : Option Record) → newest_peering earlier ≡ o → cond t (newer_of (fields_in bytes) o) o ≡ None
+      by : (t : Bool) → is_peering bytes ≡ t → (o : Option Record) → cond t (newer_of (fields_in bytes) o) o ≡ None → (o ≡ None → All (IsBelow n) earlier)
           → All (IsBelow n) (bytes ∷ earlier)
-      by true is o was e = absurd (some_newer (fields_in bytes) o e)
-      by false is o was e = All-cons (IsBelow n) bytes earlier (λ p. absurd (no_peering bytes is p)) (none_found n earlier (was ∙ e))
+      by true is o e none = absurd (some_newer (fields_in bytes) o e)
+      by false is o e none = All-cons (IsBelow n) bytes earlier (λ p. absurd (no_peering bytes is p)) (none e)
 
   -- the newest that is found is the newest
   pub found_newest : (published : List (List ℕ)) (r : Record) → newest_peering published ≡ Some r → IsNewest published r
   found_newest [] r e = absurd cc
-  found_newest (bytes ∷ earlier) r e = by (is_peering bytes) refl (newest_peering earlier) refl e
+  found_newest (bytes ∷ earlier) r e = by (is_peering bytes) refl (newest_peering earlier) refl e (found_newest earlier)
     where
       chosen : (k : Record) → IsPeering own other bytes → IsNewest earlier k → (le : Bool) → nat_le (fields_in bytes).number k.number ≡ le
           → cond le (Some k) (Some (fields_in bytes)) ≡ Some r → IsNewest (bytes ∷ earlier) r
@@ -209,12 +209,12 @@ module _ (own other : Id) where
           (outdoes bytes earlier p (All-weaker (IsAtMost k.number) (IsBelow (fields_in bytes).number) (λ other most p. let most = most p in omega arith) earlier (all_at_most earlier k is)))
 
       by : (t : Bool) → is_peering bytes ≡ t → (o : Option Record) → newest_peering earlier ≡ o → cond t (newer_of (fields_in bytes) o) o ≡ Some r
-          → IsNewest (bytes ∷ earlier) r
-      by true is None was e =
+          → ((k : Record) → newest_peering earlier ≡ Some k → IsNewest earlier k) → IsNewest (bytes ∷ earlier) r
+      by true is None was e found =
           let same : fields_in bytes ≡ r = cc in
           subst (IsNewest (bytes ∷ earlier)) same (outdoes bytes earlier (peering_so bytes is) (none_found (fields_in bytes).number earlier was))
-      by true is (Some k) was e = chosen k (peering_so bytes is) (found_newest earlier k was) (nat_le (fields_in bytes).number k.number) refl e
-      by false is o was e = one_more bytes earlier r (λ p. absurd (no_peering bytes is p)) (found_newest earlier r (was ∙ e))
+      by true is (Some k) was e found = chosen k (peering_so bytes is) (found k was) (nat_le (fields_in bytes).number k.number) refl e
+      by false is o was e found = one_more bytes earlier r (λ p. absurd (no_peering bytes is p)) (found r (was ∙ e))
 
   -- the newest of records below a number is below it
   newest_below : (n : ℕ) (published : List (List ℕ)) (r : Record) → newest_peering published ≡ Some r → All (IsBelow n) published → r.number < n

@@ -1,5 +1,5 @@
 -- An input puts at most one flight, of at most 9,216 bytes.
-use Rattle.std.proofs.Common.{◌≡◌, ℕ, ◌+◌, ◌^◌, ◌==◌, ◌||◌, ◌<◌, ◌≤◌, true, false, List, length, Option, Some, None, Ok, arith, lit<}
+use Rattle.std.proofs.Common.{◌≡◌, ℕ, ◌+◌, ◌^◌, ◌==◌, ◌||◌, ◌<◌, ◌≤◌, true, false, List, length, Option, Some, None, Ok, refl, arith, lit<}
 use Rattle.std.specs.Prelude.{IfSome, nat_le, nat_lt, slice_get}
 use Rattle.std.proofs.lemmas.Bool.Decides.{nat_tests}
 use Rattle.aip_addr.specs.declared.ids.Address.{Address}

@@ -1,5 +1,5 @@
 -- Whom a router trusts: what the test of trust says of the trace, and on which traces a neighbour passes it.
-use Rattle.std.proofs.Common.{◌≡◌, ◌≢◌, ◌⊎◌, ◌↔◌, ℕ, zero, suc, ◌<◌, ◌&&◌, ◌||◌, Bool, true, false, List, [], ◌∷◌, map, Option, Some, None, refl, sym, ap, subst, ◌∙◌, true≢false, inl, inr, arith}
+use Rattle.std.proofs.Common.{◌≡◌, ◌≢◌, ◌⊎◌, ◌↔◌, ℕ, zero, suc, ◌<◌, ◌||◌, Bool, true, false, List, [], ◌∷◌, map, Option, Some, None, refl, sym, ap, subst, ◌∙◌, true≢false, inl, inr}
 use Rattle.std.proofs.lemmas.Bool.{and_parts, and_from, or_left, or_right, ltb-true, lt-ltb}
 use Rattle.std.specs.Cmp.Lexicographic.{bytes_decides}
 use Rattle.std.specs.List.{AllByRecursion}
@@ -13,7 +13,7 @@ use Rattle.aip_event.specs.declared.event.Cause.TheVariants as cause
 use Rattle.aip_registry.specs.declared.records.Record.{Record}
 use Rattle.aip_registry.specs.declared.records.RecordKind.TheVariants.{Peer}
 use Rattle.aip_registry.specs.Record.{fields_in}
-use Rattle.aip_registry.specs.Kept.{kept_on, newest}
+use Rattle.aip_registry.specs.Kept.{kept_on}
 use Rattle.aip_registry.proofs.Newest.{keeps_newest}
 use Rattle.aip_topo.specs.Sound.{IsSound, IsRouterOf, AreDistinct, has_text}
 use Rattle.aip_topo.specs.Steps.{ad_at}
@@ -23,7 +23,6 @@ use Rattle.aip_topo.specs.declared.topology.Topology.{Topology}
 use Rattle.border_check.specs.Verdict.{port_verdict, leads_back}
 use Rattle.aip_rules.specs.declared.Entry.{Entry}
 use Rattle.aip_rules.specs.declared.Neighbour.{Neighbour}
-use Rattle.aip_rules.specs.declared.Neighbour.TheVariants.{Link}
 use Rattle.aip_rules.specs.State.{now_of}
 use Rattle.aip_rules.specs.Routes.{port_to}
 use Rattle.aip_rules.specs.Accepted.{limits_of, pair_uses, wildcard_uses}

@@ -1,5 +1,5 @@
 -- Laws of the rules: what holds of every trace.
-use Rattle.std.specs.Prelude.{◌≡◌, ◌≢◌, ◌↔◌, ℕ, ◌≤◌, ◌<◌, Bool, true, List, [], ◌∷◌, ◌++◌, length, slice_get, All, IfOk, Option, Some}
+use Rattle.std.specs.Prelude.{◌≡◌, ◌≢◌, ◌↔◌, ℕ, ◌≤◌, ◌<◌, Bool, true, List, [], ◌∷◌, ◌++◌, length, slice_get, All, IfOk, Some}
 use Rattle.aip_addr.specs.declared.ids.Id.{Id}
 use Rattle.aip_addr.specs.declared.ids.Address.{Address}
 use Rattle.aip_event.specs.declared.event.Cause.TheVariants as cause
