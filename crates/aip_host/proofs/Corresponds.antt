@@ -1,5 +1,5 @@
 -- What a host keeps stands for the trace: it reacts as the rules do on the trace, and stands for the longer trace then.
-use Rattle.std.proofs.Common.{◌≡◌, ℕ, Bool, true, false, if◌then◌else◌, List, [], ◌∷◌, ◌++◌, take, refl, sym, ◌∙◌, ap, subst}
+use Rattle.std.proofs.Common.{◌≡◌, ℕ, Bool, true, false, if◌then◌else◌, List, [], ◌∷◌, ◌++◌, take, refl, sym, ◌∙◌, ap, subst, Option, None}
 use Rattle.std.proofs.Math.Seq.{take-nil}
 use Rattle.aip_event.specs.declared.event.Event.{Event}
 use Rattle.aip_event.specs.declared.event.Reason.TheVariants as reason
@@ -22,7 +22,7 @@ use Rattle.aip_rules.specs.declared.Seat.{Seat}
 use Rattle.aip_rules.specs.State.{now_of, is_down, is_restart_of, is_halt_of, armed_stop, armed_halt}
 use Rattle.aip_rules.specs.Nodes.{name_at, key_named, is_guarded}
 use Rattle.aip_rules.specs.Reaction.{nothing, dropped, numbered, put_event}
-use Rattle.aip_rules.specs.Standing.{Standing, standing, lets_act, frames_put, next_leaf}
+use Rattle.aip_rules.specs.Standing.{Standing, standing, lets_act, frames_put, next_leaf, told_to}
 use Rattle.aip_rules.specs.Host.{handed_down, put_by, shut_by, taken_at_host, at_host, back_up}
 use Rattle.aip_rules.specs.Step.{with_events, after_step}
 use Rattle.aip_host.specs.Signing.{KeyState, with_stop}

@@ -29,7 +29,8 @@ fn host_a(alloc: Global, room: u16) -> Result<Host, Fail>
 
 // The bytes that a reaction puts.
 fn put_in(reaction: Reaction) -> Result<Bytes, Fail> {
-    match reaction.put {
+    let Reaction { events: _, put } = reaction;
+    match put {
         Some(flight) => Ok(flight.bytes),
         None => Err(Fail::from("a flight")),
     }

@@ -256,16 +256,26 @@ fn a_shut_off_names_a_frame(rt: HostRuntime) -> Result<(), Fail> {
     Ok(())
 }
 
-#[test]
-fn a_host_is_down_from_a_stop_to_its_restart(rt: HostRuntime) -> Result<(), Fail> {
-    let alloc = rt.alloc();
+// Host a, which a stop brought down while it signed with its leaf 0.
+fn fallen(alloc: Global) -> Result<Host, Fail> {
     let mut host = host_a(alloc, 128)?;
     let _sent = send(alloc, &mut host, 1)?;
-    assert!(rt; host.has_key());
+    if !host.has_key() {
+        return Err(Fail::from("a key"));
+    }
     host.stop(1, 255);
     host.halt(1, 255);
     let stopped = host.arrive(alloc, 0, &CHALLENGE)?;
-    assert_eq!(rt; stop_in(&stopped), Some(0));
+    if stop_in(&stopped) != Some(0) {
+        return Err(Fail::from("a stop at leaf 0"));
+    }
+    Ok(host)
+}
+
+#[test]
+fn a_host_is_down_from_a_stop_to_its_restart(rt: HostRuntime) -> Result<(), Fail> {
+    let alloc = rt.alloc();
+    let mut host = fallen(alloc)?;
     let sent = send(alloc, &mut host, 1)?;
     assert_eq!(rt; drop_in(&sent), Some(Reason::Down));
     let reaction = host.arrive(alloc, 0, &CHALLENGE)?;
