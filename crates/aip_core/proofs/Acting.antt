@@ -7,11 +7,12 @@ use Rattle.std.proofs.lemmas.List.Elements.{All-cons, All-head, All-tail}
 use Rattle.std.proofs.lemmas.Option.{slice_get_within, slice_get_read}
 use Rattle.aip_addr.specs.declared.ids.Address.{Address}
 use Rattle.aip_event.specs.declared.input.Input.{Input}
-use Rattle.aip_event.specs.declared.input.Input.TheVariants.{Send, Raw, Deliver, Restart}
+use Rattle.aip_event.specs.declared.input.Input.TheVariants.{Send, Raw, Deliver, Restart, Publish}
 use Rattle.aip_event.specs.declared.input.Target.{Target}
 use Rattle.aip_event.specs.declared.input.Target.TheVariants as target
 use Rattle.aip_topo.specs.declared.topology.Router.{Router}
 use Rattle.aip_topo.specs.declared.topology.Topology.{Topology}
+use Rattle.aip_registry.specs.declared.records.Record.{Record}
 use Rattle.aip_rules.specs.declared.Flight.{Flight}
 use Rattle.aip_rules.specs.Nodes.{seats_of, address_named, router_named}
 use Rattle.aip_rules.specs.Reaction.{nothing}
@@ -27,7 +28,7 @@ use Rattle.std.specs.declared.alloc.AllocError.{AllocError as NoMemory}
 use Rattle.aip_core.specs.Rooms.{IsBootedUpTo}
 use Rattle.aip_core.specs.RouterMachine.{RouterState, after_place, kept_at_place}
 use Rattle.aip_core.specs.Machine.{AreSeated, seat_place, host_of, at_host_or, host_outcome, kept_sent, kept_raw, kept_delivered, kept_outcome, port_reached, router_reached, target_reached}
-use Rattle.aip_core.specs.Moves.{Does, GoesOn, GoesToPort, HostMoves, IsAnew, Moved, MovesAt, RouterMoves, after_flight, after_target, host_at, host_touched, router_at, router_touched}
+use Rattle.aip_core.specs.Moves.{Does, GoesOn, GoesToPort, HostMoves, IsAnew, Moved, MovesAt, RouterMoves, after_flight, after_target, host_at, host_touched, records_with, router_at, router_touched}
 use Rattle.aip_core.proofs.Found.{beside}
 use Rattle.aip_core.proofs.Positions.{position_passes}
 
@@ -137,6 +138,11 @@ none_moves A place moves xs none = record {
   others = λ n apart. refl;
 }
 
+-- an input that reaches a host publishes nothing
+host_publishes_nothing : (topo : Topology) (flights : List Flight) (input : Input) (p : ℕ) (records : List Record) → host_touched topo flights input ≡ Some p → records ≡ records_with input records
+host_publishes_nothing topo flights (Publish bytes) p records touched = absurd cc
+host_publishes_nothing topo flights input p records touched = refl
+
 does_in : (kept next : Kept) (input : Input) (outcome : Result Reaction StepFault) (p : ℕ) (result : Result Reaction NoReaction) → next ≡ record kept { hosts = next.hosts }
     → host_touched kept.topo kept.flights input ≡ Some p
     → Does outcome (λ reaction old new. MovesAt HostState (Some p) (HostMoves input reaction) old new) kept.hosts result next.hosts
@@ -145,6 +151,7 @@ does_in kept next input outcome p (Ok reaction) is touched does = (does.0, recor
   topo = ap (λ (k : Kept). k.topo) is;
   links = ap (λ (k : Kept). k.links) is;
   flights = ap (λ (k : Kept). k.flights) is;
+  records = ap (λ (k : Kept). k.records) is ∙ host_publishes_nothing kept.topo kept.flights input p kept.records touched;
   ticks = ap (λ (k : Kept). k.ticks) is;
   inputs = ap (λ (k : Kept). k.inputs) is;
   hosts = subst (λ (o : Option ℕ). MovesAt HostState o (HostMoves input reaction) kept.hosts next.hosts) (sym touched) does.1;
@@ -233,8 +240,8 @@ given reaction = Ok reaction
 crosses : (kept next : Kept) (number place port : ℕ) (flight : Flight) (state : RouterState) (reaction : Reaction) (name : List ℕ)
     → next ≡ record kept { routers = next.routers } → slice_get kept.flights number ≡ Some flight → flight.target ≡ target.Port name port
     → router_named kept.topo.routers name ≡ Some place → slice_get kept.routers place ≡ Some state
-    → reaction ≡ kept_at_place kept.topo kept.links state kept.ticks place (slice_get kept.topo.routers place) port flight.bytes
-    → MovesAt RouterState (Some place) (λ old new. new ≡ after_place kept.topo kept.links old kept.ticks place (slice_get kept.topo.routers place) port flight.bytes) kept.routers next.routers
+    → reaction ≡ kept_at_place kept.topo kept.links kept.records state kept.ticks place (slice_get kept.topo.routers place) port flight.bytes
+    → MovesAt RouterState (Some place) (λ old new. new ≡ after_place kept.topo kept.links kept.records old kept.ticks place (slice_get kept.topo.routers place) port flight.bytes) kept.routers next.routers
     → (kept_outcome kept (Deliver number) ≡ Ok reaction) × Moved kept (Deliver number) reaction next
 crosses kept next number place port flight state reaction name is put goes named at reacts moves =
     let reached : kept_outcome kept (Deliver number) ≡ Ok (router_reached kept place port flight.bytes (Some state)) =
@@ -248,7 +255,7 @@ crosses kept next number place port flight state reaction name is put goes named
     let unreached : host_touched kept.topo kept.flights (Deliver number) ≡ None =
     ap (λ (o : Option Flight). option_and_then (λ n. seat_place (seats_of kept.topo) n) (option_and_then (λ f. host_at f.target) o)) put
     ∙ ap (λ (t : Target). option_and_then (λ n. seat_place (seats_of kept.topo) n) (host_at t)) goes in
-    let after : (s : RouterState) → after_place kept.topo kept.links s kept.ticks place (slice_get kept.topo.routers place) port flight.bytes ≡ after_flight kept place s (slice_get kept.flights number) =
+    let after : (s : RouterState) → after_place kept.topo kept.links kept.records s kept.ticks place (slice_get kept.topo.routers place) port flight.bytes ≡ after_flight kept place s (slice_get kept.flights number) =
     λ s. sym (ap (λ (o : Option Flight). after_flight kept place s o) put ∙ ap (λ (t : Target). after_target kept place s t flight.bytes) goes) in
     (
       reached ∙ ap given (sym reacts),
@@ -256,6 +263,7 @@ crosses kept next number place port flight state reaction name is put goes named
         topo = ap (λ (k : Kept). k.topo) is;
         links = ap (λ (k : Kept). k.links) is;
         flights = ap (λ (k : Kept). k.flights) is;
+        records = ap (λ (k : Kept). k.records) is;
         ticks = ap (λ (k : Kept). k.ticks) is;
         inputs = ap (λ (k : Kept). k.inputs) is;
         hosts = subst (λ (hs : List HostState). MovesAt HostState (host_touched kept.topo kept.flights (Deliver number)) (HostMoves (Deliver number) reaction) kept.hosts hs)
@@ -274,8 +282,8 @@ pub crosses_in_core : (inside kept next : Kept) (number place port : ℕ) (fligh
     → length kept.routers ≡ length kept.topo.routers → router_touched kept.topo kept.flights (Deliver number) ≡ Some place → GoesToPort (slice_get kept.flights number) port
     → slice_get inside.flights number ≡ Some flight
     → ((state : RouterState) → slice_get inside.routers place ≡ Some state
-    → reaction ≡ kept_at_place inside.topo inside.links state inside.ticks place (slice_get inside.topo.routers place) port flight.bytes)
-    → MovesAt RouterState (Some place) (λ old new. new ≡ after_place inside.topo inside.links old inside.ticks place (slice_get inside.topo.routers place) port flight.bytes) inside.routers next.routers
+    → reaction ≡ kept_at_place inside.topo inside.links inside.records state inside.ticks place (slice_get inside.topo.routers place) port flight.bytes)
+    → MovesAt RouterState (Some place) (λ old new. new ≡ after_place inside.topo inside.links inside.records old inside.ticks place (slice_get inside.topo.routers place) port flight.bytes) inside.routers next.routers
     → (kept_outcome kept (Deliver number) ≡ Ok reaction) × Moved kept (Deliver number) reaction next
 crosses_in_core inside kept next number place port flight reaction same is count touched port_is put reacts moves =
     subst (λ (k : Kept). length k.routers ≡ length k.topo.routers → router_touched k.topo k.flights (Deliver number) ≡ Some place → GoesToPort (slice_get k.flights number) port

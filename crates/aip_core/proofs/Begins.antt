@@ -188,6 +188,7 @@ starts_at topo kept sound built start = record {
   topology = start.topology;
   links = start.links ∙ links_at_start [] topo.parts 0;
   flights = start.flights;
+  records = start.records;
   time = start.ticks;
   inputs = start.inputs;
   hosts = hosts_start topo kept.hosts sound built start.count start.hosts;

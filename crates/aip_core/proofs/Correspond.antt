@@ -4,6 +4,7 @@ use Rattle.std.specs.Prelude.{IfOk, nat_le}
 use Rattle.std.proofs.lemmas.List.{append-nil, append_assoc}
 use Rattle.aip_event.specs.declared.event.Event.{Event}
 use Rattle.aip_event.specs.declared.input.Input.{Input}
+use Rattle.aip_event.specs.declared.input.Input.TheVariants.{Publish}
 use Rattle.aip_topo.specs.Sound.{IsSound}
 use Rattle.aip_topo.specs.declared.topology.Topology.{Topology}
 use Rattle.domain_routes.specs.declared.Edge.{Edge}
@@ -15,16 +16,19 @@ use Rattle.aip_rules.specs.declared.StepFault.{StepFault}
 use Rattle.aip_rules.specs.declared.StepFault.TheVariants as fault
 use Rattle.aip_rules.specs.State.{now_of, input_count, flights_of, flight_count, flight_in, ticks_of}
 use Rattle.aip_rules.specs.Routes.{links_now}
+use Rattle.aip_registry.specs.Kept.{kept_records}
 use Rattle.aip_rules.specs.Reaction.{events_on, in_put, numbered}
+use Rattle.aip_rules.specs.Records.{published_by, published_on, records_kept}
 use Rattle.aip_rules.specs.Step.{most_inputs, refused_if, outcome_of, reaction_of, events_of, step_of, with_events, after_step}
 use Rattle.aip_rules.specs.Laws.{flights_put}
 use Rattle.aip_rules.proofs.Modest.{AreCalm, IsModest, IsModestOutcome, put_calm}
+use Rattle.aip_rules.proofs.Publications.{published_after}
 use Rattle.aip_rules.proofs.Puts.{outcome_modest}
 use Rattle.aip_host.specs.HostState.{HostState}
 use Rattle.aip_core.specs.Kept.{Kept}
 use Rattle.aip_core.specs.RouterMachine.{RouterState}
 use Rattle.aip_core.specs.Machine.{kept_outcome, kept_reaction}
-use Rattle.aip_core.specs.Moves.{Moved, IsKeptStep, kept_after, links_with, routers_with}
+use Rattle.aip_core.specs.Moves.{Moved, IsKeptStep, kept_after, links_with, records_with, routers_with}
 use Rattle.aip_core.specs.RouterStands.{RoutersStand}
 use Rattle.aip_core.specs.StandsFor.{HostsStand, StandsFor, IsStep}
 use Rattle.aip_core.specs.Answers.{IsRefusal, IsKeptRefusal}
@@ -41,6 +45,7 @@ is_kept topo tr kept h =
     let topology = h.topology in
     let links = h.links in
     let flights = h.flights in
+    let records = h.records in
     let time = h.time in
     let inputs = h.inputs in
     λ i. record {
@@ -49,6 +54,7 @@ is_kept topo tr kept h =
       flights = flights i;
       hosts = kept.hosts;
       routers = kept.routers;
+      records = records i;
       ticks = time i;
       inputs = inputs i;
     }
@@ -73,6 +79,15 @@ flights_with : (events : List Event) (tr : List Entry) → flights_of (with_even
 flights_with [] tr = sym (append-nil (flights_of tr))
 flights_with (event ∷ events) tr = flights_with events (Happened event ∷ tr) ∙ append_assoc (flights_of tr) (flight_in event) (flights_put events)
 
+-- what an input publishes is kept with the records before it
+records_with_input : (input : Input) (published : List (List ℕ)) → kept_records (published_by input ++ published) ≡ records_with input (kept_records published)
+records_with_input (Publish bytes) published = refl
+records_with_input input published = refl
+
+-- the records after a step are those before it, with what its input published
+records_after : (tr : List Entry) (input : Input) (events : List Event) → records_kept (after_step tr input events) ≡ records_with input (records_kept tr)
+records_after tr input events = ap kept_records (published_after tr input events) ∙ records_with_input input (published_on tr)
+
 -- an input that isn't refused gives its reaction
 not_many : (test : Bool) (outcome : Result Reaction StepFault) (reaction : Reaction) → refused_if test fault.Many outcome ≡ Ok reaction → outcome ≡ Ok reaction
 not_many true outcome reaction e = absurd cc
@@ -94,6 +109,7 @@ stands_after topo tr hosts routers input reaction core sound h r kept_given give
       flights =
           ap (λ (fs : List Flight). fs ++ in_put reaction.put) moved.flights
           ∙ sym (flights_with events (Taken input ∷ tr) ∙ ap (λ fs. flights_of tr ++ fs) (put_calm reaction.events (flight_count tr) reaction.put calm));
+      records = moved.records ∙ sym (records_after tr input events);
       time = omega arith;
       inputs = omega arith;
       hosts = hosts_after topo tr hosts core.hosts input reaction (flight_count tr) sound given h moved.hosts;

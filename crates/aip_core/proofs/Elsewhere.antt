@@ -22,9 +22,11 @@ use Rattle.aip_rules.specs.declared.StepFault.TheVariants as fault
 use Rattle.aip_rules.specs.State.{now_of, flights_of, flight_at, frame_in}
 use Rattle.aip_rules.specs.Nodes.{seats_of, seat_named, router_named, address_named, neighbours_of, links_of, key_named}
 use Rattle.aip_rules.specs.Reaction.{nothing, numbered, put_event, puts}
+use Rattle.aip_rules.specs.Records.{publishes, records_kept}
 use Rattle.aip_rules.specs.Standing.{standing}
 use Rattle.aip_rules.specs.Host.{put_by, sent_frame}
-use Rattle.aip_rules.specs.Step.{can_be_put, has_key, refused_if, sent, put_raw, arrives_at_router, arrives_at_port, arrives_at_seat, arrives, delivered, injected_at_port, injected_at_host, injected, relinked, shut_with, shut_named, shut_off, restarted, stop_armed, halt_armed, most_bytes, outcome_of}
+use Rattle.aip_rules.specs.Step.{can_be_put, has_key, refused_if, sent, put_raw, arrives_at_router, arrives_at_port, arrives_at_seat, arrives, delivered, injected_at_port, injected_at_host, injected, relinked, shut_with, shut_named, shut_off, restarted, stop_armed, halt_armed, most_bytes, outcome_of, published}
+use Rattle.aip_rules.proofs.Publications.{of_publication}
 use Rattle.aip_core.specs.Machine.{seat_place}
 use Rattle.aip_core.specs.Moves.{host_at, host_named_by, host_touched, router_at, router_touched}
 use Rattle.aip_core.proofs.Keys.{found_at}
@@ -174,6 +176,15 @@ delivered_else : (topo : Topology) (tr : List Entry) (name : List ℕ) (flight :
 delivered_else topo tr name None hosts routers = tt
 delivered_else topo tr name (Some flight) hosts routers = target_else topo tr name flight.target flight.bytes hosts routers
 
+-- the event of a publication names no node
+abbrev NamesNone : List ℕ → Event → Type 0
+NamesNone name event = names (node_of event) name ≡ false
+
+published_else : (tr : List Entry) (name bytes : List ℕ) → IsElsewhere name (published tr bytes)
+published_else tr name bytes =
+    unless name (nat_lt most_bytes (length bytes)) fault.Range (Ok (publishes (records_kept tr) bytes))
+    (of_publication (NamesNone name) (λ ad other number until. refl) (λ ad other number until. refl) (λ number. refl) (records_kept tr) bytes, tt)
+
 -- ---- the whole
 
 -- where the nodes that an input reaches have other names, so have the nodes of its events
@@ -190,4 +201,4 @@ outcome_else topo tr name (Shutoff host flight ttl) hosts routers = shut_else to
 outcome_else topo tr name (Restart node) hosts routers = restart_else topo tr name (seat_named (seats_of topo) node) (router_named topo.routers node) (other_seat topo name node hosts)
 outcome_else topo tr name (Stop host call byte) hosts routers = stop_else topo name (seat_named (seats_of topo) host) call byte
 outcome_else topo tr name (Halt host call byte) hosts routers = halt_else name (seat_named (seats_of topo) host) call byte
-outcome_else topo tr name (Publish bytes) hosts routers = unless name (nat_lt most_bytes (length bytes)) fault.Range (Ok nothing) tt
+outcome_else topo tr name (Publish bytes) hosts routers = published_else tr name bytes

@@ -14,6 +14,7 @@ use Rattle.aip_event.specs.declared.input.Target.TheVariants as target
 use Rattle.aip_topo.specs.Sound.{IsSound}
 use Rattle.aip_topo.specs.declared.topology.Topology.{Topology}
 use Rattle.lms_core.specs.Tree.{Key}
+use Rattle.aip_registry.specs.declared.records.Record.{Record}
 use Rattle.aip_rules.specs.declared.Flight.{Flight}
 use Rattle.aip_rules.specs.declared.Reaction.{Reaction}
 use Rattle.aip_rules.specs.declared.Seat.{Seat}
@@ -22,17 +23,19 @@ use Rattle.aip_rules.specs.declared.StepFault.TheVariants as fault
 use Rattle.aip_rules.specs.State.{frame_in}
 use Rattle.aip_rules.specs.Nodes.{seats_of, seats_after, router_named, address_named}
 use Rattle.aip_rules.specs.Reaction.{nothing, in_put, numbered}
+use Rattle.aip_rules.specs.Records.{publishes}
 use Rattle.aip_rules.specs.Host.{put_by, sent_frame}
 use Rattle.aip_rules.specs.Step.{can_be_put, has_key, most_bytes, most_inputs, refused_if}
 use Rattle.aip_rules.specs.Laws.{PutAtMostOne}
 use Rattle.aip_rules.proofs.Sizes.{IsSizedAddress, HasSizedAddress, address_sized, all_routers_sized, hosts_sized, router_at_sized}
-use Rattle.aip_rules.proofs.Modest.{IsModest, IsModestOutcome, nothing_modest, unless, where_allowed, modest_puts}
+use Rattle.aip_rules.proofs.Modest.{IsCalm, IsModest, IsModestOutcome, happens_modest, nothing_modest, unless, where_allowed, modest_puts}
+use Rattle.aip_rules.proofs.Publications.{of_publication}
 use Rattle.aip_rules.proofs.PutsHost.{put_by_modest, shut_by_modest, at_host_modest, back_up_modest}
 use Rattle.aip_rules.proofs.Puts.{short_put, sent_short, injected_modest, flight_fits}
 use Rattle.aip_host.specs.HostState.{HostState, key_in, standing_of}
 use Rattle.aip_core.specs.Kept.{Kept}
 use Rattle.aip_core.specs.RouterMachine.{RouterState}
-use Rattle.aip_core.specs.Machine.{AreSeated, seat_place, host_of, kept_sent, kept_raw, kept_heard, kept_shut_with, kept_shut_named, kept_stop, kept_halt, host_outcome, at_host_or, router_reached, port_reached, target_reached, kept_delivered, router_restarted, kept_outcome}
+use Rattle.aip_core.specs.Machine.{AreSeated, seat_place, host_of, kept_sent, kept_raw, kept_heard, kept_shut_with, kept_shut_named, kept_stop, kept_halt, host_outcome, at_host_or, router_reached, port_reached, target_reached, kept_delivered, kept_published, router_restarted, kept_outcome}
 use Rattle.aip_core.specs.Moves.{IsKeptStep, kept_after}
 use Rattle.aip_core.proofs.RouterModest.{place_modest}
 
@@ -112,7 +115,7 @@ at_host_modest_or other kept input (Some host) sound modest s = host_modest kept
 reached_modest : (kept : Kept) (place port : ℕ) (bytes : List ℕ) (state : Option RouterState) → IsSound kept.topo → IsModest (router_reached kept place port bytes state)
 reached_modest kept place port bytes None sound = nothing_modest
 reached_modest kept place port bytes (Some state) sound =
-    place_modest kept.topo kept.links state kept.ticks place (slice_get kept.topo.routers place) port bytes (router_at_sized kept.topo place sound)
+    place_modest kept.topo kept.links kept.records state kept.ticks place (slice_get kept.topo.routers place) port bytes (router_at_sized kept.topo place sound)
 
 port_modest : (kept : Kept) (place : Option ℕ) (port : ℕ) (bytes : List ℕ) → IsSound kept.topo → IsModest (port_reached kept place port bytes)
 port_modest kept None port bytes sound = nothing_modest
@@ -130,6 +133,11 @@ restarted_modest : (router : Option ℕ) → IsModestOutcome (router_restarted r
 restarted_modest None = tt
 restarted_modest (Some place) = nothing_modest
 
+published_modest : (records : List Record) (bytes : List ℕ) → IsModestOutcome (kept_published records bytes)
+published_modest records bytes =
+    unless (nat_lt most_bytes (length bytes)) fault.Range (Ok (publishes records bytes))
+    (λ e. happens_modest _ (of_publication IsCalm (λ ad other number until. refl) (λ ad other number until. refl) (λ number. refl) records bytes))
+
 outcome_modest : (kept : Kept) (input : Input) → IsSound kept.topo → AreSeated kept.topo kept.hosts → IsModestOutcome (kept_outcome kept input)
 outcome_modest kept (Tick ticks) sound seated = unless ((ticks == 0) || nat_le (2 ^ 48) (kept.ticks + ticks)) fault.Range (Ok nothing) (λ e. nothing_modest)
 outcome_modest kept (Send host node packet body) sound seated = at_host_modest_or (Err fault.Unknown) kept (Send host node packet body) (host_of kept host) sound tt (host_sized kept host sound seated)
@@ -143,7 +151,7 @@ outcome_modest kept (Restart node) sound seated =
     at_host_modest_or (router_restarted (router_named kept.topo.routers node)) kept (Restart node) (host_of kept node) sound (restarted_modest (router_named kept.topo.routers node)) (host_sized kept node sound seated)
 outcome_modest kept (Stop host call byte) sound seated = at_host_modest_or (Err fault.Unknown) kept (Stop host call byte) (host_of kept host) sound tt (host_sized kept host sound seated)
 outcome_modest kept (Halt host call byte) sound seated = at_host_modest_or (Err fault.Unknown) kept (Halt host call byte) (host_of kept host) sound tt (host_sized kept host sound seated)
-outcome_modest kept (Publish bytes) sound seated = unless (nat_lt most_bytes (length bytes)) fault.Range (Ok nothing) (λ e. nothing_modest)
+outcome_modest kept (Publish bytes) sound seated = published_modest kept.records bytes
 
 -- the events of a step put at most one flight
 pub step_puts : (kept : Kept) (input : Input) (after : Kept) (events : List Event) → IsSound kept.topo → AreSeated kept.topo kept.hosts → IsKeptStep kept input after events → PutAtMostOne events

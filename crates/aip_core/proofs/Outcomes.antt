@@ -21,6 +21,7 @@ use Rattle.aip_rules.specs.State.{now_of, input_count, flights_of, flight_at, fr
 use Rattle.aip_rules.specs.Nodes.{seats_of, seat_named, router_named, address_named, key_named}
 use Rattle.aip_rules.specs.Routes.{links_now}
 use Rattle.aip_rules.specs.Reaction.{nothing}
+use Rattle.aip_rules.specs.Records.{records_kept}
 use Rattle.aip_rules.specs.Standing.{standing}
 use Rattle.aip_rules.specs.Host.{at_host, back_up, put_by, sent_frame, shut_by}
 use Rattle.aip_rules.specs.Router.{Arrival}
@@ -45,6 +46,7 @@ kept_of topo tr hosts routers = record {
   flights = flights_of tr;
   hosts = hosts;
   routers = routers;
+  records = records_kept tr;
   ticks = now_of tr;
   inputs = input_count tr;
 }
@@ -147,8 +149,8 @@ reached_at : (topo : Topology) (tr : List Entry) (hosts : List HostState) (route
     → router_reached (kept_of topo tr hosts routers) place port bytes state ≡ arrives_at_router topo tr place self port bytes
 reached_at topo tr hosts routers place port bytes None None at h = refl
 reached_at topo tr hosts routers place port bytes (Some self) (Some state) at h =
-    ap (λ (o : Option Router). kept_at_place topo (links_now topo tr) state (now_of tr) place o port bytes) at
-    ∙ reacts topo tr state (record { place = place; self = self; port = port }) h (links_now topo tr) (now_of tr) bytes refl refl
+    ap (λ (o : Option Router). kept_at_place topo (links_now topo tr) (records_kept tr) state (now_of tr) place o port bytes) at
+    ∙ reacts topo tr state (record { place = place; self = self; port = port }) h (links_now topo tr) (records_kept tr) (now_of tr) bytes refl refl refl
 reached_at topo tr hosts routers place port bytes None (Some state) at h = absurd h
 reached_at topo tr hosts routers place port bytes (Some self) None at h = absurd h
 

@@ -15,11 +15,13 @@ use Rattle.aip_topo.specs.Sound.{IsSound}
 use Rattle.aip_topo.specs.declared.topology.Router.{Router}
 use Rattle.aip_topo.specs.declared.topology.Topology.{Topology}
 use Rattle.domain_routes.specs.declared.Edge.{Edge}
+use Rattle.aip_registry.specs.declared.records.Record.{Record}
 use Rattle.aip_rules.specs.declared.Entry.{Entry}
 use Rattle.aip_rules.specs.declared.Flight.{Flight}
 use Rattle.aip_rules.specs.declared.Reaction.{Reaction}
 use Rattle.aip_rules.specs.Nodes.{router_named}
 use Rattle.aip_rules.specs.Reaction.{numbered}
+use Rattle.aip_rules.specs.Records.{records_kept}
 use Rattle.aip_rules.specs.Router.{Arrival, at_router}
 use Rattle.aip_rules.specs.Routes.{links_now}
 use Rattle.aip_rules.specs.State.{now_of, flight_at, is_restart_of}
@@ -78,20 +80,20 @@ some_same : (a b : Router) → Some a ≡ Some b → a ≡ b
 some_same a b e = cc
 
 -- a delivery to a port of one router
-pub one_takes : (topo : Topology) (states : List RouterState) (tr : List Entry) (at : Arrival) (state : RouterState) (links : List Edge) (now n k : ℕ) (flight : Flight) (bytes : List ℕ)
+pub one_takes : (topo : Topology) (states : List RouterState) (tr : List Entry) (at : Arrival) (state : RouterState) (links : List Edge) (records : List Record) (now n k : ℕ) (flight : Flight) (bytes : List ℕ)
     → IsSound topo → slice_get topo.routers at.place ≡ Some at.self → slice_get states at.place ≡ Some state
-    → links ≡ links_now topo tr → now ≡ now_of tr → flight_at tr k ≡ Some flight → flight.bytes ≡ bytes → RoutersStand topo tr states
-    → RoutersStand topo (after_step tr (Deliver k) (numbered n (kept_at_router topo links state now at bytes))) (set states at.place (after_arrival topo links state now at bytes))
-one_takes topo states tr at state links now n k flight bytes sound here there over time put same stand =
+    → links ≡ links_now topo tr → records ≡ records_kept tr → now ≡ now_of tr → flight_at tr k ≡ Some flight → flight.bytes ≡ bytes → RoutersStand topo tr states
+    → RoutersStand topo (after_step tr (Deliver k) (numbered n (kept_at_router topo links records state now at bytes))) (set states at.place (after_arrival topo links records state now at bytes))
+one_takes topo states tr at state links records now n k flight bytes sound here there over kept time put same stand =
     let stands = stand.each at.place at.self state here there in
-    one_moves topo states at.place (after_arrival topo links state now at bytes) tr _
+    one_moves topo states at.place (after_arrival topo links records state now at bytes) tr _
     (λ self found.
     let is : at.self ≡ self = some_same at.self self (sym here ∙ found) in
-    subst (λ (r : Router). RouterStands topo (after_step tr (Deliver k) (numbered n (kept_at_router topo links state now at bytes))) r (after_arrival topo links state now at bytes)) is
-    (stays topo tr at state links now n k flight bytes stands time put same))
+    subst (λ (r : Router). RouterStands topo (after_step tr (Deliver k) (numbered n (kept_at_router topo links records state now at bytes))) r (after_arrival topo links records state now at bytes)) is
+    (stays topo tr at state links records now n k flight bytes stands time put same))
     (λ place self other ne found before.
-    others_stay topo self other (Deliver k) (numbered n (kept_at_router topo links state now at bytes)) tr refl
-    (subst (λ (reaction : Reaction). AreNoUses self.name (numbered n reaction)) (sym (reacts topo tr state at stands links now bytes over time))
+    others_stay topo self other (Deliver k) (numbered n (kept_at_router topo links records state now at bytes)) tr refl
+    (subst (λ (reaction : Reaction). AreNoUses self.name (numbered n reaction)) (sym (reacts topo tr state at stands links records now bytes over kept time))
     (numbered_unused self.name n (at_router topo tr at bytes)
     (elsewhere_unused topo tr self.name at (names_apart topo at.place place at.self self sound (λ e. ne (sym e)) here found) bytes)))
     before)

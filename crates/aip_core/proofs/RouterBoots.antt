@@ -10,6 +10,7 @@ use Rattle.aip_topo.specs.declared.topology.Topology.{Topology}
 use Rattle.domain_routes.specs.declared.Edge.{Edge}
 use Rattle.verify_packet.specs.declared.responses.Checked.{Checked}
 use Rattle.verify_packet.specs.declared.responses.Checked.TheVariants as checked
+use Rattle.aip_registry.specs.declared.records.Record.{Record}
 use Rattle.aip_rules.specs.declared.Entry.{Entry}
 use Rattle.aip_rules.specs.declared.Entry.TheVariants.{Taken, Happened}
 use Rattle.aip_rules.specs.Nodes.{is_same_address, neighbour_at}
@@ -41,16 +42,16 @@ module _ (topo : Topology) (state : RouterState) (now : ℕ) where
   by_answer place checked.Key = refl
   by_answer place checked.Signature = refl
 
-  module _ (links : List Edge) (at : Arrival) where
-    by_check : (frame : Frame) → (after_checked topo links state now at frame).boot ≡ state.boot
+  module _ (links : List Edge) (records : List Record) (at : Arrival) where
+    by_check : (frame : Frame) → (after_checked topo links records state now at frame).boot ≡ state.boot
     by_check frame =
         let found = neighbour_at topo at.place at.port in
-        let judged = after_judged topo links state now at frame found in
+        let judged = after_judged topo links records state now at frame found in
         either_way state.boot (not at.self.checking) state (cond (is_challenge frame.kind) state judged) refl
         (either_way state.boot (is_challenge frame.kind) state judged refl
-        (by_verdict frame.from at.port (kept_verdict topo links state now at found frame.from)))
+        (by_verdict frame.from at.port (kept_verdict topo links records state now at found frame.from)))
 
-    by_pass : (frame : Frame) (out : Option ℕ) → (after_passed topo links state now at frame out).boot ≡ state.boot
+    by_pass : (frame : Frame) (out : Option ℕ) → (after_passed topo links records state now at frame out).boot ≡ state.boot
     by_pass frame None = refl
     by_pass frame (Some out) = by_check frame
 
@@ -59,23 +60,23 @@ module _ (topo : Topology) (state : RouterState) (now : ℕ) where
         either_way state.boot (at.self.checking && is_response frame.kind) (after_response topo state now at.place (kept_answer topo state now at frame)) state
         (by_answer at.place (kept_answer topo state now at frame)) refl
 
-    by_frame : (frame : Option Frame) → (after_taken topo links state now at frame).boot ≡ state.boot
+    by_frame : (frame : Option Frame) → (after_taken topo links records state now at frame).boot ≡ state.boot
     by_frame None = refl
     by_frame (Some frame) =
         let out = port_over topo links at.place at.self frame.to in
-        let passing = after_passed topo links state now at frame out in
+        let passing = after_passed topo links records state now at frame out in
         either_way state.boot (is_same_address at.self.address frame.to) (after_own topo state now at frame) (cond (nat_le frame.hop 1) state passing) (by_own frame)
         (either_way state.boot (nat_le frame.hop 1) state passing refl (by_pass frame out))
 
     -- whatever reaches a router leaves how often it was started anew
-    pub same_boot : (bytes : List ℕ) → (after_arrival topo links state now at bytes).boot ≡ state.boot
+    pub same_boot : (bytes : List ℕ) → (after_arrival topo links records state now at bytes).boot ≡ state.boot
     same_boot bytes = by_frame (frame_of bytes)
 
 -- the same at a place where a router may be
-pub same_boot_at_place : (topo : Topology) (links : List Edge) (state : RouterState) (now place : ℕ) (self : Option Router) (port : ℕ) (bytes : List ℕ)
-    → (after_place topo links state now place self port bytes).boot ≡ state.boot
-same_boot_at_place topo links state now place None port bytes = refl
-same_boot_at_place topo links state now place (Some self) port bytes = same_boot topo state now links (record { place = place; self = self; port = port }) bytes
+pub same_boot_at_place : (topo : Topology) (links : List Edge) (records : List Record) (state : RouterState) (now place : ℕ) (self : Option Router) (port : ℕ) (bytes : List ℕ)
+    → (after_place topo links records state now place self port bytes).boot ≡ state.boot
+same_boot_at_place topo links records state now place None port bytes = refl
+same_boot_at_place topo links records state now place (Some self) port bytes = same_boot topo state now links records (record { place = place; self = self; port = port }) bytes
 
 one_or_none : (b : Bool) → cond b 1 0 ≤ 1
 one_or_none true = omega arith

@@ -23,6 +23,7 @@ use Rattle.accept_cache.proofs.Laws.{proof_stands, has_fresh_agrees, has_fresh_w
 use Rattle.verify_packet.specs.declared.responses.Checked.{Checked}
 use Rattle.verify_packet.specs.declared.responses.Checked.TheVariants as checked
 use Rattle.verify_packet.specs.Response.{response_verdict}
+use Rattle.aip_registry.specs.declared.records.Record.{Record}
 use Rattle.aip_rules.specs.declared.Entry.{Entry}
 use Rattle.aip_rules.specs.declared.Entry.TheVariants.{Happened}
 use Rattle.aip_rules.specs.declared.Reaction.{Reaction}
@@ -31,6 +32,7 @@ use Rattle.aip_rules.specs.Accepted.{limits_of, pair_uses, wildcard_uses}
 use Rattle.aip_rules.specs.Nodes.{is_same_address, neighbour_at}
 use Rattle.aip_rules.specs.Routes.{links_now, port_to}
 use Rattle.aip_rules.specs.Reaction.{dropped}
+use Rattle.aip_rules.specs.Records.{records_kept}
 use Rattle.aip_rules.specs.Router.{Arrival, key_after, router_key, forwarded, by_verdict, verdict_by, verdict_at, is_challenge, is_link, is_response, checked_frame, passed, proved, makes_wildcard, responded, own_frame, frame_at_router, taken_at_router, at_router}
 use Rattle.aip_core.specs.RouterMachine.{RouterState, kept_verdict, kept_checked, kept_passed, kept_wild, kept_responded, kept_own, kept_frame, kept_taken, kept_at_router}
 use Rattle.aip_core.specs.RouterStands.{RouterStands}
@@ -78,13 +80,13 @@ module _ (topo : Topology) (tr : List Entry) (state : RouterState) where
     responded_is place checked.Signature = refl
 
   module _ (at : Arrival) (stands : RouterStands topo tr at.self state) where
-    verdict_is : (source : Address) → kept_verdict topo (links_now topo tr) state (now_of tr) at (neighbour_at topo at.place at.port) source ≡ verdict_at topo tr at source
+    verdict_is : (source : Address) → kept_verdict topo (links_now topo tr) (records_kept tr) state (now_of tr) at (neighbour_at topo at.place at.port) source ≡ verdict_at topo tr at source
     verdict_is source =
         let fresh = fresh_is at.self stands (pair_of source at.port) in
         let wild = wild_is at.self stands (wildcard_of source.ad at.port) in
-        λ i. verdict_by topo at (neighbour_at topo at.place at.port) source (port_to topo tr at.place at.self source) (fresh i) (wild i)
+        λ i. verdict_by topo (records_kept tr) (now_of tr) at (neighbour_at topo at.place at.port) source (port_to topo tr at.place at.self source) (fresh i) (wild i)
 
-    checked_is : (frame : Frame) (out : ℕ) → kept_checked topo (links_now topo tr) state (now_of tr) at frame out ≡ checked_frame topo tr at frame out
+    checked_is : (frame : Frame) (out : ℕ) → kept_checked topo (links_now topo tr) (records_kept tr) state (now_of tr) at frame out ≡ checked_frame topo tr at frame out
     checked_is frame out =
         let verdict = verdict_is frame.from in
         let boot = stands.boot in
@@ -92,7 +94,7 @@ module _ (topo : Topology) (tr : List Entry) (state : RouterState) where
         (cond (is_challenge frame.kind) (forwarded topo at out cause.Exempt frame)
         (by_verdict topo (key_after topo (boot i) at.place at.self) (now_of tr) at frame out (verdict i)))
 
-    passed_is : (frame : Frame) (out : Option ℕ) → kept_passed topo (links_now topo tr) state (now_of tr) at frame out ≡ passed topo tr at frame out
+    passed_is : (frame : Frame) (out : Option ℕ) → kept_passed topo (links_now topo tr) (records_kept tr) state (now_of tr) at frame out ≡ passed topo tr at frame out
     passed_is frame None = refl
     passed_is frame (Some out) = checked_is frame out
 
@@ -103,19 +105,20 @@ module _ (topo : Topology) (tr : List Entry) (state : RouterState) where
         ap (λ boot. cond test (kept_responded topo state (now_of tr) at.place at.self (response_verdict (key_after topo boot at.place at.self) (now_of tr) frame)) mine) stands.boot
         ∙ ap (λ (reaction : Reaction). cond test reaction mine) (responded_is at.self stands at.place (response_verdict (router_key topo tr at.place at.self) (now_of tr) frame))
 
-    frame_is : (frame : Frame) → kept_frame topo (links_now topo tr) state (now_of tr) at frame ≡ frame_at_router topo tr at frame
+    frame_is : (frame : Frame) → kept_frame topo (links_now topo tr) (records_kept tr) state (now_of tr) at frame ≡ frame_at_router topo tr at frame
     frame_is frame =
         let own = own_is frame in
         let passing = passed_is frame (port_to topo tr at.place at.self frame.to) in
         λ i. cond (is_same_address at.self.address frame.to) (own i) (cond (nat_le frame.hop 1) (dropped at.self.name reason.Hops) (passing i))
 
-    taken_is : (frame : Option Frame) → kept_taken topo (links_now topo tr) state (now_of tr) at frame ≡ taken_at_router topo tr at frame
+    taken_is : (frame : Option Frame) → kept_taken topo (links_now topo tr) (records_kept tr) state (now_of tr) at frame ≡ taken_at_router topo tr at frame
     taken_is None = refl
     taken_is (Some frame) = frame_is frame
 
     -- the reaction to bytes is the one that the rules give
-    pub reacts : (links : List Edge) (now : ℕ) (bytes : List ℕ) → links ≡ links_now topo tr → now ≡ now_of tr → kept_at_router topo links state now at bytes ≡ at_router topo tr at bytes
-    reacts links now bytes over at_time =
-        ap (λ (ls : List Edge). kept_at_router topo ls state now at bytes) over
-        ∙ ap (λ time. kept_at_router topo (links_now topo tr) state time at bytes) at_time
+    pub reacts : (links : List Edge) (records : List Record) (now : ℕ) (bytes : List ℕ) → links ≡ links_now topo tr → records ≡ records_kept tr → now ≡ now_of tr → kept_at_router topo links records state now at bytes ≡ at_router topo tr at bytes
+    reacts links records now bytes over kept at_time =
+        ap (λ (ls : List Edge). kept_at_router topo ls records state now at bytes) over
+        ∙ ap (λ (rs : List Record). kept_at_router topo (links_now topo tr) rs state now at bytes) kept
+        ∙ ap (λ time. kept_at_router topo (links_now topo tr) (records_kept tr) state time at bytes) at_time
         ∙ taken_is (frame_of bytes)

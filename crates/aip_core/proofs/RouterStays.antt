@@ -23,6 +23,7 @@ use Rattle.border_check.specs.Verdict.{port_verdict, leads_back}
 use Rattle.verify_packet.specs.declared.challenges.RouterKey.{RouterKey}
 use Rattle.verify_packet.specs.declared.responses.Checked.{Checked}
 use Rattle.verify_packet.specs.declared.responses.Checked.TheVariants as checked
+use Rattle.aip_registry.specs.declared.records.Record.{Record}
 use Rattle.aip_rules.specs.declared.Entry.{Entry}
 use Rattle.aip_rules.specs.declared.Entry.TheVariants.{Taken, Happened}
 use Rattle.aip_rules.specs.declared.Flight.{Flight}
@@ -168,39 +169,39 @@ module _ (topo : Topology) (at : Arrival) (state : RouterState) (now n : ℕ) (b
       at_link back false false false true is made = forwards_wild out made
       at_link back false false false false is made = asks key frame back
 
-      judges : (links : List Edge) (found : Option Neighbour) → Judged (kept_verdict topo links state now at found frame.from)
-      judges links None = asks key frame (port_over topo links at.place at.self frame.from)
-      judges links (Some (neighbour.Host name)) = at_host (not (same_id frame.from.ad at.self.address.ad)) (has_fresh state.cache (pair_of frame.from at.port) now) refl
-      judges links (Some (neighbour.Link other far marked)) =
+      judges : (links : List Edge) (records : List Record) (found : Option Neighbour) → Judged (kept_verdict topo links records state now at found frame.from)
+      judges links records None = asks key frame (port_over topo links at.place at.self frame.from)
+      judges links records (Some (neighbour.Host name)) = at_host (not (same_id frame.from.ad at.self.address.ad)) (has_fresh state.cache (pair_of frame.from at.port) now) refl
+      judges links records (Some (neighbour.Link other far marked)) =
           let back = port_over topo links at.place at.self frame.from in
-          at_link back (trusts topo at.self other marked) (leads_back back at.port)
+          at_link back (trusts topo records now at.self other marked) (leads_back back at.port)
           (has_fresh state.cache (pair_of frame.from at.port) now) (has_fresh_wild state.cache (wildcard_of frame.from.ad at.port) now) refl refl
 
-    checks : (links : List Edge) (out : ℕ) → Leaves (kept_checked topo links state now at frame out) (after_checked topo links state now at frame)
-    checks links out =
+    checks : (links : List Edge) (records : List Record) (out : ℕ) → Leaves (kept_checked topo links records state now at frame out) (after_checked topo links records state now at frame)
+    checks links records out =
         both_ways Leaves (not at.self.checking) _ _ _ _ (forwards_on out cause.Open refl refl)
         (both_ways Leaves (is_challenge frame.kind) _ _ _ _ (forwards_on out cause.Exempt refl refl)
-        (judges (key_after topo state.boot at.place at.self) out links (neighbour_at topo at.place at.port)))
+        (judges (key_after topo state.boot at.place at.self) out links records (neighbour_at topo at.place at.port)))
 
-    passes : (links : List Edge) (out : Option ℕ) → Leaves (kept_passed topo links state now at frame out) (after_passed topo links state now at frame out)
-    passes links None = drops reason.NoRoute
-    passes links (Some out) = checks links out
+    passes : (links : List Edge) (records : List Record) (out : Option ℕ) → Leaves (kept_passed topo links records state now at frame out) (after_passed topo links records state now at frame out)
+    passes links records None = drops reason.NoRoute
+    passes links records (Some out) = checks links records out
 
-    takes : (links : List Edge) → now ≡ now_of base → Leaves (kept_frame topo links state now at frame) (after_frame topo links state now at frame)
-    takes links is_now =
+    takes : (links : List Edge) (records : List Record) → now ≡ now_of base → Leaves (kept_frame topo links records state now at frame) (after_frame topo links records state now at frame)
+    takes links records is_now =
         both_ways Leaves (is_same_address at.self.address frame.to) _ _ _ _ (owns is_now frame)
-        (both_ways Leaves (nat_le frame.hop 1) _ _ _ _ (drops reason.Hops) (passes links (port_over topo links at.place at.self frame.to)))
+        (both_ways Leaves (nat_le frame.hop 1) _ _ _ _ (drops reason.Hops) (passes links records (port_over topo links at.place at.self frame.to)))
 
-  taken_leaves : (links : List Edge) (frame : Option Frame) → delivered_frame base ≡ frame → now ≡ now_of base → Leaves (kept_taken topo links state now at frame) (after_taken topo links state now at frame)
-  taken_leaves links None delivered is_now = drops reason.Bad
-  taken_leaves links (Some frame) delivered is_now = takes frame delivered links is_now
+  taken_leaves : (links : List Edge) (records : List Record) (frame : Option Frame) → delivered_frame base ≡ frame → now ≡ now_of base → Leaves (kept_taken topo links records state now at frame) (after_taken topo links records state now at frame)
+  taken_leaves links records None delivered is_now = drops reason.Bad
+  taken_leaves links records (Some frame) delivered is_now = takes frame delivered links records is_now
 
 -- what a router keeps after a delivery stands for the trace with it and the events of the reaction, whatever the number of
 -- what is put
-pub stays : (topo : Topology) (tr : List Entry) (at : Arrival) (state : RouterState) (links : List Edge) (now n k : ℕ) (flight : Flight) (bytes : List ℕ)
+pub stays : (topo : Topology) (tr : List Entry) (at : Arrival) (state : RouterState) (links : List Edge) (records : List Record) (now n k : ℕ) (flight : Flight) (bytes : List ℕ)
     → RouterStands topo tr at.self state → now ≡ now_of tr → flight_at tr k ≡ Some flight → flight.bytes ≡ bytes
-    → RouterStands topo (after_step tr (Deliver k) (numbered n (kept_at_router topo links state now at bytes))) at.self (after_arrival topo links state now at bytes)
-stays topo tr at state links now n k flight bytes stands is_now put same =
-    taken_leaves topo at state now n (Taken (Deliver k) ∷ tr) (taken topo at.self state (Deliver k) tr refl stands) links (frame_of bytes)
+    → RouterStands topo (after_step tr (Deliver k) (numbered n (kept_at_router topo links records state now at bytes))) at.self (after_arrival topo links records state now at bytes)
+stays topo tr at state links records now n k flight bytes stands is_now put same =
+    taken_leaves topo at state now n (Taken (Deliver k) ∷ tr) (taken topo at.self state (Deliver k) tr refl stands) links records (frame_of bytes)
     (ap frame_in put ∙ ap frame_of same)
     (is_now ∙ sym (zero-add (now_of tr)))

@@ -22,6 +22,7 @@ use Rattle.aip_rules.specs.State.{now_of, flights_of, flight_at, is_restart_of}
 use Rattle.aip_rules.specs.Nodes.{seats_of, router_named}
 use Rattle.aip_rules.specs.Routes.{links_now}
 use Rattle.aip_rules.specs.Reaction.{numbered}
+use Rattle.aip_rules.specs.Records.{records_kept}
 use Rattle.aip_rules.specs.Router.{Arrival}
 use Rattle.aip_rules.specs.Step.{after_step, outcome_of}
 use Rattle.aip_host.specs.HostState.{HostState}
@@ -70,20 +71,20 @@ crossed_port : (topo : Topology) (tr : List Entry) (hosts : List HostState) (rou
     (flight : Flight) (port : ℕ) (place : Option ℕ) → flight_at tr number ≡ Some flight
     → port_reached (kept_of topo tr hosts routers) place port flight.bytes ≡ reaction → place ≡ Some p
     → slice_get topo.routers p ≡ Some self → slice_get routers p ≡ Some old
-    → new ≡ after_place topo (links_now topo tr) old (now_of tr) p (slice_get topo.routers p) port flight.bytes → RouterStands topo tr self old
+    → new ≡ after_place topo (links_now topo tr) (records_kept tr) old (now_of tr) p (slice_get topo.routers p) port flight.bytes → RouterStands topo tr self old
     → RouterStands topo (after_step tr (Deliver number) (numbered n reaction)) self new
 crossed_port topo tr hosts routers number n p self old new reaction flight port place put given named there at moves stands =
     let at_port : Arrival = record { place = p; self = self; port = port } in
     let kept = kept_of topo tr hosts routers in
-    let here : port_reached kept place port flight.bytes ≡ kept_at_router topo (links_now topo tr) old (now_of tr) at_port flight.bytes =
+    let here : port_reached kept place port flight.bytes ≡ kept_at_router topo (links_now topo tr) (records_kept tr) old (now_of tr) at_port flight.bytes =
     ap (λ (o : Option ℕ). port_reached kept o port flight.bytes) named
     ∙ ap (λ (o : Option RouterState). router_reached kept p port flight.bytes o) at
-    ∙ ap (λ (o : Option Router). kept_at_place topo (links_now topo tr) old (now_of tr) p o port flight.bytes) there in
-    let after : new ≡ after_arrival topo (links_now topo tr) old (now_of tr) at_port flight.bytes =
-    moves ∙ ap (λ (o : Option Router). after_place topo (links_now topo tr) old (now_of tr) p o port flight.bytes) there in
+    ∙ ap (λ (o : Option Router). kept_at_place topo (links_now topo tr) (records_kept tr) old (now_of tr) p o port flight.bytes) there in
+    let after : new ≡ after_arrival topo (links_now topo tr) (records_kept tr) old (now_of tr) at_port flight.bytes =
+    moves ∙ ap (λ (o : Option Router). after_place topo (links_now topo tr) (records_kept tr) old (now_of tr) p o port flight.bytes) there in
     subst (λ (s : RouterState). RouterStands topo (after_step tr (Deliver number) (numbered n reaction)) self s) (sym after)
-    (subst (λ (r : Reaction). RouterStands topo (after_step tr (Deliver number) (numbered n r)) self (after_arrival topo (links_now topo tr) old (now_of tr) at_port flight.bytes)) (sym here ∙ given)
-    (stays topo tr at_port old (links_now topo tr) (now_of tr) n number flight flight.bytes stands refl put refl))
+    (subst (λ (r : Reaction). RouterStands topo (after_step tr (Deliver number) (numbered n r)) self (after_arrival topo (links_now topo tr) (records_kept tr) old (now_of tr) at_port flight.bytes)) (sym here ∙ given)
+    (stays topo tr at_port old (links_now topo tr) (records_kept tr) (now_of tr) n number flight flight.bytes stands refl put refl))
 
 crossed_target : (topo : Topology) (tr : List Entry) (hosts : List HostState) (routers : List RouterState) (number n p : ℕ) (self : Router) (old new : RouterState) (reaction : Reaction)
     (flight : Flight) (to : Target) → flight_at tr number ≡ Some flight

@@ -10,6 +10,7 @@ use Rattle.aip_event.specs.declared.input.Target.{Target}
 use Rattle.aip_event.specs.declared.input.Target.TheVariants as target
 use Rattle.aip_topo.specs.declared.topology.Topology.{Topology}
 use Rattle.lms_core.specs.Tree.{Key}
+use Rattle.aip_registry.specs.declared.records.Record.{Record}
 use Rattle.aip_rules.specs.declared.Flight.{Flight}
 use Rattle.aip_rules.specs.declared.Reaction.{Reaction}
 use Rattle.aip_rules.specs.declared.Seat.{Seat}
@@ -18,8 +19,9 @@ use Rattle.aip_rules.specs.declared.StepFault.TheVariants as fault
 use Rattle.aip_rules.specs.State.{frame_in}
 use Rattle.aip_rules.specs.Nodes.{seats_of, router_named, address_named}
 use Rattle.aip_rules.specs.Reaction.{nothing, puts}
+use Rattle.aip_rules.specs.Records.{publishes}
 use Rattle.aip_rules.specs.Host.{at_host, back_up, put_by, sent_frame, shut_by}
-use Rattle.aip_rules.specs.Step.{can_be_put, has_key, injected, most_inputs, published, refused_if, ticked}
+use Rattle.aip_rules.specs.Step.{can_be_put, has_key, injected, most_bytes, most_inputs, refused_if, ticked}
 use Rattle.domain_routes.specs.declared.Edge.{Edge}
 use Rattle.aip_host.specs.HostState.{HostState, key_in, standing_of}
 use Rattle.aip_core.specs.Kept.{Kept}
@@ -116,7 +118,7 @@ at_host_or other kept input (Some host) = host_outcome kept.topo kept.flights ke
 abbrev pub router_reached : Kept → ℕ → ℕ → List ℕ → Option RouterState → Reaction
 router_reached kept place port bytes None = nothing
 router_reached kept place port bytes (Some state) =
-    kept_at_place kept.topo kept.links state kept.ticks place (slice_get kept.topo.routers place) port bytes
+    kept_at_place kept.topo kept.links kept.records state kept.ticks place (slice_get kept.topo.routers place) port bytes
 
 -- bytes at a port of a router, if there is one at a place
 abbrev pub port_reached : Kept → Option ℕ → ℕ → List ℕ → Reaction
@@ -144,6 +146,10 @@ unless_hindered None to bytes = if can_be_put (length bytes) then Ok (puts to by
 abbrev pub kept_relinked : List Edge → ℕ → Result Reaction StepFault
 kept_relinked links link = if nat_lt link (length links) then Ok nothing else Err fault.Range
 
+-- bytes that are published to the records that are kept
+abbrev pub kept_published : List Record → List ℕ → Result Reaction StepFault
+kept_published records bytes = refused_if (nat_lt most_bytes (length bytes)) fault.Range (Ok (publishes records bytes))
+
 -- a router that starts anew, if there is one
 abbrev pub router_restarted : Option ℕ → Result Reaction StepFault
 router_restarted None = Err fault.Unknown
@@ -162,7 +168,7 @@ kept_outcome kept (Shutoff host flight ttl) = at_host_or (Err fault.Unknown) kep
 kept_outcome kept (Restart node) = at_host_or (router_restarted (router_named kept.topo.routers node)) kept (Restart node) (host_of kept node)
 kept_outcome kept (Stop host call byte) = at_host_or (Err fault.Unknown) kept (Stop host call byte) (host_of kept host)
 kept_outcome kept (Halt host call byte) = at_host_or (Err fault.Unknown) kept (Halt host call byte) (host_of kept host)
-kept_outcome kept (Publish bytes) = published bytes
+kept_outcome kept (Publish bytes) = kept_published kept.records bytes
 
 -- what comes of an input
 abbrev pub kept_reaction : Kept → Input → Result Reaction StepFault

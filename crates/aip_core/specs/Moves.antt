@@ -7,6 +7,8 @@ use Rattle.aip_event.specs.declared.input.Target.{Target}
 use Rattle.aip_event.specs.declared.input.Target.TheVariants as target
 use Rattle.aip_topo.specs.declared.topology.Topology.{Topology}
 use Rattle.domain_routes.specs.declared.Edge.{Edge}
+use Rattle.aip_registry.specs.declared.records.Record.{Record}
+use Rattle.aip_registry.specs.Kept.{after as after_publication}
 use Rattle.aip_rules.specs.declared.Flight.{Flight}
 use Rattle.aip_rules.specs.declared.Reaction.{Reaction}
 use Rattle.aip_rules.specs.declared.StepFault.{StepFault}
@@ -107,7 +109,7 @@ router_touched topo flights _ = None
 abbrev pub after_target : Kept → ℕ → RouterState → Target → List ℕ → RouterState
 after_target kept place state (target.Host name) bytes = state
 after_target kept place state (target.Port name port) bytes =
-    after_place kept.topo kept.links state kept.ticks place (slice_get kept.topo.routers place) port bytes
+    after_place kept.topo kept.links kept.records state kept.ticks place (slice_get kept.topo.routers place) port bytes
 
 -- what the router at a place keeps once a flight reached it
 abbrev pub after_flight : Kept → ℕ → RouterState → Option Flight → RouterState
@@ -140,13 +142,22 @@ abbrev pub routers_with : Topology → Input → List RouterState → List Route
 routers_with topo (Restart node) states = anew_if states (router_unless (seat_place (seats_of topo) node) (router_named topo.routers node))
 routers_with topo _ states = states
 
+-- ---- records
+
+-- the records that are kept once an input published one, if it does
+abbrev pub records_with : Input → List Record → List Record
+records_with (Publish bytes) records = after_publication records bytes
+records_with _ records = records
+
 -- ---- the whole
 
--- a core moves by a reaction: one host or one router at most goes on, and all else stays
+-- a core moves by a reaction: one host or one router at most goes on, the records are those with what the input published,
+-- and all else stays
 pub record Moved (kept : Kept) (input : Input) (reaction : Reaction) (next : Kept) : Type 0 where
   pub topo : next.topo ≡ kept.topo
   pub links : next.links ≡ kept.links
   pub flights : next.flights ≡ kept.flights
+  pub records : next.records ≡ records_with input kept.records
   pub ticks : next.ticks ≡ kept.ticks
   pub inputs : next.inputs ≡ kept.inputs
   pub hosts : MovesAt HostState (host_touched kept.topo kept.flights input) (HostMoves input reaction) kept.hosts next.hosts
@@ -173,6 +184,7 @@ kept_after kept input reaction =
       flights = kept.flights ++ in_put reaction.put;
       hosts = kept.hosts;
       routers = routers_with kept.topo input kept.routers;
+      records = kept.records;
       ticks = kept.ticks + ticks_of input;
       inputs = kept.inputs + 1;
     }

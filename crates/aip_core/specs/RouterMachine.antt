@@ -15,6 +15,7 @@ use Rattle.accept_cache.specs.Kept.{Kept as Accepted, nothing_kept, has_fresh, h
 use Rattle.verify_packet.specs.declared.responses.Checked.{Checked}
 use Rattle.verify_packet.specs.declared.responses.Checked.TheVariants as checked
 use Rattle.verify_packet.specs.Response.{response_verdict}
+use Rattle.aip_registry.specs.declared.records.Record.{Record}
 use Rattle.aip_rules.specs.declared.Neighbour.{Neighbour}
 use Rattle.aip_rules.specs.declared.Reaction.{Reaction}
 use Rattle.aip_rules.specs.Accepted.{limits_of}
@@ -44,28 +45,28 @@ started_anew state = record { boot = state.boot + 1; cache = nothing_kept state.
 -- ---- what it does
 
 -- the verdict on the source of a frame, by what lies at the port at which it came
-abbrev pub kept_verdict : Topology → List Edge → RouterState → ℕ → Arrival → Option Neighbour → Address → Verdict
-kept_verdict topo links state now at neighbour source =
-    verdict_by topo at neighbour source (port_over topo links at.place at.self source)
+abbrev pub kept_verdict : Topology → List Edge → List Record → RouterState → ℕ → Arrival → Option Neighbour → Address → Verdict
+kept_verdict topo links records state now at neighbour source =
+    verdict_by topo records now at neighbour source (port_over topo links at.place at.self source)
     (has_fresh state.cache (pair_of source at.port) now)
     (has_fresh_wild state.cache (wildcard_of source.ad at.port) now)
 
 -- a frame of a source that is checked, by what lies at the port at which it came
-abbrev pub kept_judged : Topology → List Edge → RouterState → ℕ → Arrival → Frame → ℕ → Option Neighbour → Reaction
-kept_judged topo links state now at frame out neighbour =
-    by_verdict topo (key_after topo state.boot at.place at.self) now at frame out (kept_verdict topo links state now at neighbour frame.from)
+abbrev pub kept_judged : Topology → List Edge → List Record → RouterState → ℕ → Arrival → Frame → ℕ → Option Neighbour → Reaction
+kept_judged topo links records state now at frame out neighbour =
+    by_verdict topo (key_after topo state.boot at.place at.self) now at frame out (kept_verdict topo links records state now at neighbour frame.from)
 
 -- a frame that the router could put on the port `out`
-abbrev pub kept_checked : Topology → List Edge → RouterState → ℕ → Arrival → Frame → ℕ → Reaction
-kept_checked topo links state now at frame out =
+abbrev pub kept_checked : Topology → List Edge → List Record → RouterState → ℕ → Arrival → Frame → ℕ → Reaction
+kept_checked topo links records state now at frame out =
     if not at.self.checking then forwarded topo at out cause.Open frame else
     if is_challenge frame.kind then forwarded topo at out cause.Exempt frame else
-    kept_judged topo links state now at frame out (neighbour_at topo at.place at.port)
+    kept_judged topo links records state now at frame out (neighbour_at topo at.place at.port)
 
 -- a frame that has a hop left and isn't for the router, towards a port or none
-abbrev pub kept_passed : Topology → List Edge → RouterState → ℕ → Arrival → Frame → Option ℕ → Reaction
-kept_passed topo links state now at frame None = dropped at.self.name reason.NoRoute
-kept_passed topo links state now at frame (Some out) = kept_checked topo links state now at frame out
+abbrev pub kept_passed : Topology → List Edge → List Record → RouterState → ℕ → Arrival → Frame → Option ℕ → Reaction
+kept_passed topo links records state now at frame None = dropped at.self.name reason.NoRoute
+kept_passed topo links records state now at frame (Some out) = kept_checked topo links records state now at frame out
 
 -- a proved source makes a wildcard of its domain at its port
 abbrev pub kept_wild : Topology → RouterState → ℕ → ℕ → Address → ℕ → Bool
@@ -95,20 +96,20 @@ kept_own topo state now at frame =
     else dropped at.self.name reason.Mine
 
 -- a frame at a router
-abbrev pub kept_frame : Topology → List Edge → RouterState → ℕ → Arrival → Frame → Reaction
-kept_frame topo links state now at frame =
+abbrev pub kept_frame : Topology → List Edge → List Record → RouterState → ℕ → Arrival → Frame → Reaction
+kept_frame topo links records state now at frame =
     if is_same_address at.self.address frame.to then kept_own topo state now at frame else
     if nat_le frame.hop 1 then dropped at.self.name reason.Hops else
-    kept_passed topo links state now at frame (port_over topo links at.place at.self frame.to)
+    kept_passed topo links records state now at frame (port_over topo links at.place at.self frame.to)
 
 -- a frame, or bytes that are none, at a router
-abbrev pub kept_taken : Topology → List Edge → RouterState → ℕ → Arrival → Option Frame → Reaction
-kept_taken topo links state now at None = dropped at.self.name reason.Bad
-kept_taken topo links state now at (Some frame) = kept_frame topo links state now at frame
+abbrev pub kept_taken : Topology → List Edge → List Record → RouterState → ℕ → Arrival → Option Frame → Reaction
+kept_taken topo links records state now at None = dropped at.self.name reason.Bad
+kept_taken topo links records state now at (Some frame) = kept_frame topo links records state now at frame
 
 -- what happens where bytes arrive at a port of a router
-abbrev pub kept_at_router : Topology → List Edge → RouterState → ℕ → Arrival → List ℕ → Reaction
-kept_at_router topo links state now at bytes = kept_taken topo links state now at (frame_of bytes)
+abbrev pub kept_at_router : Topology → List Edge → List Record → RouterState → ℕ → Arrival → List ℕ → Reaction
+kept_at_router topo links records state now at bytes = kept_taken topo links records state now at (frame_of bytes)
 
 -- ---- what it keeps then
 
@@ -119,21 +120,21 @@ after_verdict state source port (Forwards cause.Wild) = record state { cache = a
 after_verdict state source port _ = state
 
 -- after a frame of a source that is checked
-abbrev pub after_judged : Topology → List Edge → RouterState → ℕ → Arrival → Frame → Option Neighbour → RouterState
-after_judged topo links state now at frame neighbour =
-    after_verdict state frame.from at.port (kept_verdict topo links state now at neighbour frame.from)
+abbrev pub after_judged : Topology → List Edge → List Record → RouterState → ℕ → Arrival → Frame → Option Neighbour → RouterState
+after_judged topo links records state now at frame neighbour =
+    after_verdict state frame.from at.port (kept_verdict topo links records state now at neighbour frame.from)
 
 -- after a frame that the router could put on a port
-abbrev pub after_checked : Topology → List Edge → RouterState → ℕ → Arrival → Frame → RouterState
-after_checked topo links state now at frame =
+abbrev pub after_checked : Topology → List Edge → List Record → RouterState → ℕ → Arrival → Frame → RouterState
+after_checked topo links records state now at frame =
     if not at.self.checking then state else
     if is_challenge frame.kind then state else
-    after_judged topo links state now at frame (neighbour_at topo at.place at.port)
+    after_judged topo links records state now at frame (neighbour_at topo at.place at.port)
 
 -- after a frame that has a hop left and isn't for the router
-abbrev pub after_passed : Topology → List Edge → RouterState → ℕ → Arrival → Frame → Option ℕ → RouterState
-after_passed topo links state now at frame None = state
-after_passed topo links state now at frame (Some out) = after_checked topo links state now at frame
+abbrev pub after_passed : Topology → List Edge → List Record → RouterState → ℕ → Arrival → Frame → Option ℕ → RouterState
+after_passed topo links records state now at frame None = state
+after_passed topo links records state now at frame (Some out) = after_checked topo links records state now at frame
 
 -- after a proof: the source is accepted at the port, and its domain where it is made a wildcard
 abbrev pub after_proof : Topology → RouterState → ℕ → ℕ → Address → ℕ → RouterState
@@ -154,31 +155,31 @@ after_own topo state now at frame =
     else state
 
 -- after a frame
-abbrev pub after_frame : Topology → List Edge → RouterState → ℕ → Arrival → Frame → RouterState
-after_frame topo links state now at frame =
+abbrev pub after_frame : Topology → List Edge → List Record → RouterState → ℕ → Arrival → Frame → RouterState
+after_frame topo links records state now at frame =
     if is_same_address at.self.address frame.to then after_own topo state now at frame else
     if nat_le frame.hop 1 then state else
-    after_passed topo links state now at frame (port_over topo links at.place at.self frame.to)
+    after_passed topo links records state now at frame (port_over topo links at.place at.self frame.to)
 
 -- after a frame, or bytes that are none
-abbrev pub after_taken : Topology → List Edge → RouterState → ℕ → Arrival → Option Frame → RouterState
-after_taken topo links state now at None = state
-after_taken topo links state now at (Some frame) = after_frame topo links state now at frame
+abbrev pub after_taken : Topology → List Edge → List Record → RouterState → ℕ → Arrival → Option Frame → RouterState
+after_taken topo links records state now at None = state
+after_taken topo links records state now at (Some frame) = after_frame topo links records state now at frame
 
 -- what a router keeps after bytes arrived at a port
-abbrev pub after_arrival : Topology → List Edge → RouterState → ℕ → Arrival → List ℕ → RouterState
-after_arrival topo links state now at bytes = after_taken topo links state now at (frame_of bytes)
+abbrev pub after_arrival : Topology → List Edge → List Record → RouterState → ℕ → Arrival → List ℕ → RouterState
+after_arrival topo links records state now at bytes = after_taken topo links records state now at (frame_of bytes)
 
 -- ---- at a place where a router may be
 
 -- what happens where bytes arrive at a port of the router at this place, if there is one
-abbrev pub kept_at_place : Topology → List Edge → RouterState → ℕ → ℕ → Option Router → ℕ → List ℕ → Reaction
-kept_at_place topo links state now place None port bytes = nothing
-kept_at_place topo links state now place (Some self) port bytes =
-    kept_at_router topo links state now (record { place = place; self = self; port = port }) bytes
+abbrev pub kept_at_place : Topology → List Edge → List Record → RouterState → ℕ → ℕ → Option Router → ℕ → List ℕ → Reaction
+kept_at_place topo links records state now place None port bytes = nothing
+kept_at_place topo links records state now place (Some self) port bytes =
+    kept_at_router topo links records state now (record { place = place; self = self; port = port }) bytes
 
 -- what the router at this place keeps then
-abbrev pub after_place : Topology → List Edge → RouterState → ℕ → ℕ → Option Router → ℕ → List ℕ → RouterState
-after_place topo links state now place None port bytes = state
-after_place topo links state now place (Some self) port bytes =
-    after_arrival topo links state now (record { place = place; self = self; port = port }) bytes
+abbrev pub after_place : Topology → List Edge → List Record → RouterState → ℕ → ℕ → Option Router → ℕ → List ℕ → RouterState
+after_place topo links records state now place None port bytes = state
+after_place topo links records state now place (Some self) port bytes =
+    after_arrival topo links records state now (record { place = place; self = self; port = port }) bytes

@@ -7,6 +7,7 @@ use Rattle.aip_rules.specs.declared.Entry.{Entry}
 use Rattle.aip_rules.specs.declared.Seat.{Seat}
 use Rattle.aip_rules.specs.State.{now_of, input_count, flights_of}
 use Rattle.aip_rules.specs.Nodes.{seats_of}
+use Rattle.aip_rules.specs.Records.{records_kept}
 use Rattle.aip_rules.specs.Routes.{links_now}
 use Rattle.aip_rules.specs.Step.{step_of, after_step}
 use Rattle.aip_host.specs.HostState.{HostState}
@@ -19,12 +20,13 @@ pub record HostsStand (topo : Topology) (tr : List Entry) (hosts : List HostStat
   pub count : length hosts ≡ length (seats_of topo)
   pub each : (place : ℕ) (seat : Seat) (state : HostState) → slice_get (seats_of topo) place ≡ Some seat → slice_get hosts place ≡ Some state → HostStands topo tr seat state
 
--- what is kept stands for a trace on a topology: it is this topology, with the links, the flights, the time and the number
--- of inputs of the trace, and its hosts and routers stand for the trace
+-- what is kept stands for a trace on a topology: it is this topology, with the links, the flights, the records, the time and
+-- the number of inputs of the trace, and its hosts and routers stand for the trace
 pub record StandsFor (topo : Topology) (tr : List Entry) (kept : Kept) : Type 0 where
   pub topology : kept.topo ≡ topo
   pub links : kept.links ≡ links_now topo tr
   pub flights : kept.flights ≡ flights_of tr
+  pub records : kept.records ≡ records_kept tr
   pub time : kept.ticks ≡ now_of tr
   pub inputs : kept.inputs ≡ input_count tr
   pub hosts : HostsStand topo tr kept.hosts

@@ -38,7 +38,8 @@ pub record AreBegun (settings : Settings) (routers : List Router) (seats : List 
   pub left : drop (length hosts) keys ≡ host_keys parts
   pub room : length hosts + length (host_keys parts) ≡ length seats
 
--- what is kept before any input: all links as they are given, no flights, new hosts, and routers that accepted nothing
+-- what is kept before any input: all links as they are given, no flights, new hosts, routers that accepted nothing, and no
+-- records
 pub record IsKeptAtStart (topo : Topology) (kept : Kept) : Type 0 where
   pub topology : kept.topo ≡ topo
   pub links : kept.links ≡ links_of topo
@@ -46,5 +47,6 @@ pub record IsKeptAtStart (topo : Topology) (kept : Kept) : Type 0 where
   pub count : length kept.hosts ≡ length (seats_of topo)
   pub hosts : AreNewHosts topo.settings topo.routers (seats_of topo) (host_keys topo.parts) kept.hosts
   pub routers : kept.routers ≡ replicate (length topo.routers) (router_at_start topo.settings)
+  pub records : kept.records ≡ []
   pub ticks : kept.ticks ≡ 0
   pub inputs : kept.inputs ≡ 0

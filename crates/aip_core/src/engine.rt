@@ -1,7 +1,7 @@
 //! The core: what stands after the inputs so far, and a step.
 
 ghost use Rattle.std.specs.Prelude.{◌≡◌, ◌<◌, ◌≤◌, ◌^◌, ◌+◌, ◌++◌, ◌∷◌, [], ℕ, List, length, slice_get, option_map, Ok, Err, Some, IsTrue, IsOk, IfOk, IfErr, OnOk};
-ghost use Rattle.aip_event.specs.declared.input.Input.TheVariants.{Deliver, Restart};
+ghost use Rattle.aip_event.specs.declared.input.Input.TheVariants.{Deliver, Publish, Restart};
 ghost use Rattle.aip_host.specs.HostState.{HostState};
 ghost use Rattle.aip_rules.specs.declared.Entry.{Entry as Record};
 ghost use Rattle.aip_rules.specs.declared.StepFault.TheVariants as fault;
@@ -10,8 +10,7 @@ ghost use Rattle.aip_topo.specs.Sound.{IsSound};
 ghost use Rattle.aip_rules.specs.State.{now_of, flight_count, ticks_of};
 ghost use Rattle.aip_rules.specs.Routes.{domains_of_routers};
 ghost use Rattle.aip_rules.specs.Reaction.{numbered, in_put, put_event};
-ghost use Rattle.aip_rules.specs.Step.{injected, is_built, ticked};
-ghost use Rattle.aip_rules.specs.Texts.{is_built_topology};
+ghost use Rattle.aip_rules.specs.Step.{injected, ticked};
 ghost use Rattle.aip_rules.specs.Laws.{PutAtMostOne};
 ghost use Rattle.aip_core.specs.Machine.{AreSeated, at_host_or, host_of, host_outcome, is_at_host, kept_outcome, kept_relinked, unless_hindered};
 ghost use Rattle.aip_core.specs.Moves.{Does, GoesToPort, LinkIsThere, Moved, IsKeptStep, host_named_by, host_touched, router_touched, kept_after, links_with};
@@ -24,6 +23,7 @@ use crate::directory::Directory;
 use crate::flights::Flights;
 use crate::host::{act_at, can_be_put};
 use crate::places::{Places, places_of};
+use crate::publishing::publish;
 use crate::reactions::NoReaction;
 use crate::routers::{arrive_at, checks_of, started};
 use crate::starting::hosts_of;
@@ -31,13 +31,15 @@ use crate::wiring::Wiring;
 use aip_addr::{Bytes, Name};
 use aip_event::{Events, Input, Target};
 use aip_host::Host;
+use aip_registry::Registry;
 use aip_rules::{Flight, MOST_INPUTS, Reaction, StepFault};
 use aip_topo::{Router, Topology};
 use std::alloc::{AllocError, Global};
 use std::marker::Model;
 
 /// The network as it runs. Contracts see its topology, its links as they are, its flights, its hosts and what its routers
-/// keep, its time and the number of inputs that it took; and these stand for a trace.
+/// keep, the records that were published and are kept, its time and the number of inputs that it took; and these stand for a
+/// trace.
 #[derive(Drop)]
 pub struct Core {
     directory: Directory,
@@ -46,6 +48,7 @@ pub struct Core {
     // The hosts and what the routers keep, by their places.
     hosts: Vec<Host>,
     routers: Vec<Checks>,
+    registry: Registry,
     ticks: u64,
     inputs: u32,
 }
@@ -57,7 +60,7 @@ impl Model for Core {
 
     ghost use Rattle.aip_core.specs.Rooms.{FitTogether};
 
-    ghost view = { λ c. record { topo = c.directory; links = c.wiring.links; flights = c.flights; hosts = c.hosts.items; routers = c.routers.items; ticks = c.ticks; inputs = c.inputs } };
+    ghost view = { λ c. record { topo = c.directory; links = c.wiring.links; flights = c.flights; hosts = c.hosts.items; routers = c.routers.items; records = c.registry; ticks = c.ticks; inputs = c.inputs } };
 
     ghost invariant = { FitTogether };
 }
@@ -155,6 +158,7 @@ impl Core {
             flights: Flights::new(alloc),
             hosts,
             routers: checks,
+            registry: Registry::new(alloc),
             ticks: 0,
             inputs: 0,
         })
@@ -164,7 +168,6 @@ impl Core {
     /// memory.
     pub fn new(alloc: Global, topology: Topology) -> Result<Core, AllocError>
         requires sound { IsSound topology }
-        requires built { IsTrue (is_built_topology topology) }
         ensures { IfOk result (λ core. StandsFor topology [] core) }
     {
         Core::start(alloc, topology)
@@ -314,6 +317,7 @@ impl Core {
                 alloc,
                 &self.directory,
                 &mut self.wiring,
+                &self.registry,
                 &mut self.routers,
                 place,
                 port,
@@ -364,9 +368,15 @@ impl Core {
         }
     }
 
+    // Bytes are published.
+    fn publish(&mut self, alloc: Global, bytes: &[u8]) -> Result<Reaction, NoReaction>
+        ensures { Does (kept_outcome self.old (Publish bytes.now)) (λ reaction old new. Moved old (Publish bytes.now) reaction new) self.old result self.new }
+    {
+        publish(alloc, &mut self.registry, bytes)
+    }
+
     // What comes of an input, where one more may be taken.
     fn outcome(&mut self, alloc: Global, input: &Input) -> Result<Reaction, NoReaction>
-        requires { IsTrue (is_built input.now) }
         ensures { Does (kept_outcome self.old input.now) (λ reaction old new. Moved old input.now reaction new) self.old result self.new }
     {
         match input {
@@ -380,7 +390,7 @@ impl Core {
             Input::Shutoff { host, .. } => self.act_named(alloc, host, input),
             Input::Stop { host, .. } => self.act_named(alloc, host, input),
             Input::Halt { host, .. } => self.act_named(alloc, host, input),
-            Input::Publish { .. } => unreachable!(),
+            Input::Publish { bytes } => self.publish(alloc, bytes.as_slice()),
         }
     }
 
@@ -403,6 +413,7 @@ impl Core {
             mut flights,
             hosts,
             routers,
+            registry,
             ticks,
             inputs,
         } = self;
@@ -415,6 +426,7 @@ impl Core {
             flights,
             hosts,
             routers,
+            registry,
             ticks: ticks + ticks_of(input),
             inputs: inputs + 1,
         };
@@ -424,7 +436,6 @@ impl Core {
     // Takes one input, by what is kept alone.
     #[tactic(auto, using(crate::proofs::Accepted::taken_early, crate::proofs::Accepted::taken_there))]
     fn take(self, alloc: Global, input: Input) -> Result<(Core, Events), StepEnd>
-        requires { IsTrue (is_built input) }
         ensures sound { IsSound self.topo }
         ensures seated { AreSeated self.topo self.hosts }
         ensures taken { IfOk result (λ taken. IsKeptStep self input taken.0 taken.1) }
@@ -446,7 +457,6 @@ impl Core {
     /// of the rules, and the new core stands for the trace with the input and these events. Where the rules refuse the
     /// input, the core comes back as it was, with the first fault that applies. After want of memory it is given up.
     pub fn step(self, alloc: Global, input: Input) -> Result<(Core, Events), StepEnd>
-        requires built { IsTrue (is_built input) }
         ensures taken { IfOk result (λ taken. IsStep self input taken.0 taken.1) }
         ensures refused { IfErr result (IsRefusal self input) }
         ensures flights { IfOk result (λ taken. length taken.0.flights ≤ length self.flights + 1) }

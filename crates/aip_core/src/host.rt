@@ -19,8 +19,8 @@ use aip_host::Host;
 use aip_rules::{Flight, Reaction, StepFault};
 use std::alloc::Global;
 
-// The most bytes that are put at once.
-const MOST_BYTES: usize = 9216;
+/// The most bytes that are put at once.
+pub const MOST_BYTES: usize = 9216;
 
 /// Whether so many bytes can be put.
 pub fn can_be_put(count: usize) -> bool

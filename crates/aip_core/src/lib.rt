@@ -24,6 +24,7 @@ mod index;
 mod passing;
 mod places;
 mod ports;
+mod publishing;
 mod reactions;
 mod router;
 mod routers;
@@ -31,6 +32,7 @@ mod routes;
 mod starting;
 #[cfg(test)]
 mod tests;
+mod trust;
 mod wiring;
 
 pub use aip_rules::{Entry, Flight, StepFault};

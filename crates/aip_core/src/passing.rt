@@ -4,7 +4,7 @@ ghost use Rattle.std.specs.Prelude.{◌≡◌, ◌<◌, ◌^◌, [], length, IsS
 ghost use Rattle.aip_frame.specs.Frame.{frame_bytes, frame_of};
 ghost use Rattle.aip_rules.specs.Nodes.{neighbour_at};
 ghost use Rattle.aip_rules.specs.Routes.{port_over};
-ghost use Rattle.aip_rules.specs.Router.{asked, by_verdict, forwarded, is_challenge, key_after, of_border, of_host, one_hop_less, trusts};
+ghost use Rattle.aip_rules.specs.Router.{asked, by_verdict, forwarded, is_challenge, key_after, of_border, of_host, one_hop_less};
 ghost use Rattle.aip_rules.specs.declared.Neighbour.TheVariants as neighbour;
 ghost use Rattle.aip_core.specs.RouterMachine.{arrival_of, kept_judged, kept_checked, kept_passed, after_judged, after_checked, after_passed};
 ghost use Rattle.aip_core.specs.Wiring.{IsWiringOf};
@@ -14,12 +14,13 @@ use crate::checks::Checks;
 use crate::directory::Directory;
 use crate::ports::{port_over, target_at};
 use crate::router::Arrival;
+use crate::trust::trusts;
 use crate::wiring::Wiring;
 use aip_addr::Bytes;
 use aip_event::{Cause, Event, Reason};
 use aip_frame::{Kind, from_of, hop_of, kind_of, set_hop, to_of};
+use aip_registry::Registry;
 use aip_rules::{Neighbour, Reaction};
-use aip_topo::Router;
 use border_check::PortVerdict;
 use first_hop::HostVerdict;
 use std::alloc::{AllocError, Global};
@@ -116,21 +117,12 @@ fn by_link_verdict(
     }
 }
 
-// Whether the router trusts its neighbour over a link whose end is marked or not.
-fn trusts(directory: &Directory, own: &Router, other: u16, marked: bool) -> bool
-    ensures { result ≡ trusts directory.now own.now other marked }
-{
-    match directory.routers().get(other as usize) {
-        Some(router) => marked && router.domain == own.domain,
-        None => false,
-    }
-}
-
 // A frame of a source that is checked, which came at a port of a host, whatever its name.
 fn judge_at_host(
     alloc: Global,
     directory: &Directory,
     wiring: &Wiring,
+    registry: &Registry,
     checks: &mut Checks,
     at: &Arrival,
     out: u16,
@@ -142,9 +134,9 @@ fn judge_at_host(
     requires low { at.now.port < 2 ^ 16 }
     requires frame { IsSome (frame_of bytes.now) }
     ensures reaction { IfOk result (λ reaction. IfSome (frame_of bytes.now) (λ frame.
-        reaction ≡ kept_judged directory.now wiring.now.links checks.old at.now.time (arrival_of at.now) frame out (Some (neighbour.Host [])))) }
+        reaction ≡ kept_judged directory.now wiring.now.links registry.now checks.old at.now.time (arrival_of at.now) frame out (Some (neighbour.Host [])))) }
     ensures after { OnOk result (IfSome (frame_of bytes.now) (λ frame.
-        checks.new ≡ after_judged directory.now wiring.now.links checks.old at.now.time (arrival_of at.now) frame (Some (neighbour.Host [])))) }
+        checks.new ≡ after_judged directory.now wiring.now.links registry.now checks.old at.now.time (arrival_of at.now) frame (Some (neighbour.Host [])))) }
     ensures boot { checks.new.boot ≡ checks.old.boot }
 {
     let key = key_of(directory, wiring, checks.boot(), at);
@@ -160,6 +152,7 @@ fn judge_at_link(
     alloc: Global,
     directory: &Directory,
     wiring: &mut Wiring,
+    registry: &Registry,
     checks: &mut Checks,
     at: &Arrival,
     other: u16,
@@ -174,15 +167,15 @@ fn judge_at_link(
     requires frame { IsSome (frame_of bytes.now) }
     ensures same { wiring.new ≡ wiring.old }
     ensures reaction { IfOk result (λ reaction. IfSome (frame_of bytes.now) (λ frame.
-        reaction ≡ kept_judged directory.now wiring.old.links checks.old at.now.time (arrival_of at.now) frame out (Some (neighbour.Link other 0 marked)))) }
+        reaction ≡ kept_judged directory.now wiring.old.links registry.now checks.old at.now.time (arrival_of at.now) frame out (Some (neighbour.Link other 0 marked)))) }
     ensures after { OnOk result (IfSome (frame_of bytes.now) (λ frame.
-        checks.new ≡ after_judged directory.now wiring.old.links checks.old at.now.time (arrival_of at.now) frame (Some (neighbour.Link other 0 marked)))) }
+        checks.new ≡ after_judged directory.now wiring.old.links registry.now checks.old at.now.time (arrival_of at.now) frame (Some (neighbour.Link other 0 marked)))) }
     ensures boot { checks.new.boot ≡ checks.old.boot }
 {
     let source = from_of(bytes);
     let back = port_over(alloc, directory, wiring, at.place, &at.own, &source)?;
     let key = key_of(directory, wiring, checks.boot(), at);
-    let trusted = trusts(directory, &at.own, other, marked);
+    let trusted = trusts(directory, registry, at.time, &at.own, other, marked);
     let port = at.port as u16;
     let verdict = checks.at_link(trusted, back, &source, port, at.time);
     by_link_verdict(
@@ -219,6 +212,7 @@ fn judge(
     alloc: Global,
     directory: &Directory,
     wiring: &mut Wiring,
+    registry: &Registry,
     checks: &mut Checks,
     at: &Arrival,
     out: u16,
@@ -230,16 +224,16 @@ fn judge(
     requires frame { IsSome (frame_of bytes.now) }
     ensures same { wiring.new ≡ wiring.old }
     ensures reaction { IfOk result (λ reaction. IfSome (frame_of bytes.now) (λ frame.
-        reaction ≡ kept_judged directory.now wiring.old.links checks.old at.now.time (arrival_of at.now) frame out
+        reaction ≡ kept_judged directory.now wiring.old.links registry.now checks.old at.now.time (arrival_of at.now) frame out
         (neighbour_at directory.now at.now.place at.now.port))) }
     ensures after { OnOk result (IfSome (frame_of bytes.now) (λ frame.
-        checks.new ≡ after_judged directory.now wiring.old.links checks.old at.now.time (arrival_of at.now) frame
+        checks.new ≡ after_judged directory.now wiring.old.links registry.now checks.old at.now.time (arrival_of at.now) frame
         (neighbour_at directory.now at.now.place at.now.port))) }
     ensures boot { checks.new.boot ≡ checks.old.boot }
 {
     match wiring.neighbour(at.place, at.port) {
         Some(Neighbour::Host { name: _ }) => {
-            judge_at_host(alloc, directory, wiring, checks, at, out, bytes)
+            judge_at_host(alloc, directory, wiring, registry, checks, at, out, bytes)
         }
         Some(
             Neighbour::Link {
@@ -248,7 +242,7 @@ fn judge(
                 trusted: marked,
             },
         ) => judge_at_link(
-            alloc, directory, wiring, checks, at, other, marked, out, bytes,
+            alloc, directory, wiring, registry, checks, at, other, marked, out, bytes,
         ),
         None => judge_at_none(alloc, directory, wiring, checks.boot(), at, bytes),
     }
@@ -269,6 +263,7 @@ fn pass_on(
     alloc: Global,
     directory: &Directory,
     wiring: &mut Wiring,
+    registry: &Registry,
     checks: &mut Checks,
     at: &Arrival,
     out: u16,
@@ -280,9 +275,9 @@ fn pass_on(
     requires frame { IsSome (frame_of bytes.now) }
     ensures same { wiring.new ≡ wiring.old }
     ensures reaction { IfOk result (λ reaction. IfSome (frame_of bytes.now) (λ frame.
-        reaction ≡ kept_checked directory.now wiring.old.links checks.old at.now.time (arrival_of at.now) frame out)) }
+        reaction ≡ kept_checked directory.now wiring.old.links registry.now checks.old at.now.time (arrival_of at.now) frame out)) }
     ensures after { OnOk result (IfSome (frame_of bytes.now) (λ frame.
-        checks.new ≡ after_checked directory.now wiring.old.links checks.old at.now.time (arrival_of at.now) frame)) }
+        checks.new ≡ after_checked directory.now wiring.old.links registry.now checks.old at.now.time (arrival_of at.now) frame)) }
     ensures boot { checks.new.boot ≡ checks.old.boot }
 {
     if !at.own.checking {
@@ -291,7 +286,7 @@ fn pass_on(
     if is_challenge(kind_of(bytes)) {
         return forward(alloc, directory, wiring, at, out, Cause::Exempt, bytes);
     }
-    judge(alloc, directory, wiring, checks, at, out, bytes)
+    judge(alloc, directory, wiring, registry, checks, at, out, bytes)
 }
 
 /// A frame that has a hop left and isn't for the router itself. The only error is want of memory.
@@ -299,6 +294,7 @@ pub fn pass(
     alloc: Global,
     directory: &Directory,
     wiring: &mut Wiring,
+    registry: &Registry,
     checks: &mut Checks,
     at: &Arrival,
     bytes: &[u8],
@@ -309,15 +305,15 @@ pub fn pass(
     requires frame { IsSome (frame_of bytes.now) }
     ensures same { wiring.new ≡ wiring.old }
     ensures reaction { IfOk result (λ reaction. IfSome (frame_of bytes.now) (λ frame.
-        reaction ≡ kept_passed directory.now wiring.old.links checks.old at.now.time (arrival_of at.now) frame
+        reaction ≡ kept_passed directory.now wiring.old.links registry.now checks.old at.now.time (arrival_of at.now) frame
         (port_over directory.now wiring.old.links at.now.place at.now.own frame.to))) }
     ensures after { OnOk result (IfSome (frame_of bytes.now) (λ frame.
-        checks.new ≡ after_passed directory.now wiring.old.links checks.old at.now.time (arrival_of at.now) frame
+        checks.new ≡ after_passed directory.now wiring.old.links registry.now checks.old at.now.time (arrival_of at.now) frame
         (port_over directory.now wiring.old.links at.now.place at.now.own frame.to))) }
     ensures boot { checks.new.boot ≡ checks.old.boot }
 {
     match port_over(alloc, directory, wiring, at.place, &at.own, &to_of(bytes))? {
-        Some(out) => pass_on(alloc, directory, wiring, checks, at, out, bytes),
+        Some(out) => pass_on(alloc, directory, wiring, registry, checks, at, out, bytes),
         None => Reaction::dropped(alloc, at.own.name, Reason::NoRoute),
     }
 }

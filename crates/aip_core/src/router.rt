@@ -14,6 +14,7 @@ use crate::wiring::Wiring;
 use aip_addr::Address;
 use aip_event::{Event, Events, Reason};
 use aip_frame::{Kind, hop_of, is_frame, kind_of, to_of};
+use aip_registry::Registry;
 use aip_rules::{Neighbour, Reaction};
 use aip_topo::Router;
 use std::alloc::{AllocError, Global};
@@ -137,6 +138,7 @@ fn take_in(
     alloc: Global,
     directory: &Directory,
     wiring: &mut Wiring,
+    registry: &Registry,
     checks: &mut Checks,
     at: &Arrival,
     bytes: &[u8],
@@ -146,9 +148,9 @@ fn take_in(
     requires epochs { 0 < directory.now.settings.epoch }
     ensures same { wiring.new ≡ wiring.old }
     ensures reaction { IfOk result (λ reaction.
-        reaction ≡ kept_taken directory.now wiring.old.links checks.old at.now.time (arrival_of at.now) (frame_of bytes.now)) }
+        reaction ≡ kept_taken directory.now wiring.old.links registry.now checks.old at.now.time (arrival_of at.now) (frame_of bytes.now)) }
     ensures after { OnOk result (
-        checks.new ≡ after_taken directory.now wiring.old.links checks.old at.now.time (arrival_of at.now) (frame_of bytes.now)) }
+        checks.new ≡ after_taken directory.now wiring.old.links registry.now checks.old at.now.time (arrival_of at.now) (frame_of bytes.now)) }
     ensures boot { checks.new.boot ≡ checks.old.boot }
 {
     if !is_frame(bytes) {
@@ -160,7 +162,7 @@ fn take_in(
     if hop_of(bytes) <= 1 {
         return Reaction::dropped(alloc, at.own.name, Reason::Hops);
     }
-    pass(alloc, directory, wiring, checks, at, bytes)
+    pass(alloc, directory, wiring, registry, checks, at, bytes)
 }
 
 /// What happens where bytes arrive at a port of the router at a place at a time, if there is one, and what it keeps then,
@@ -169,6 +171,7 @@ pub fn arrive(
     alloc: Global,
     directory: &Directory,
     wiring: &mut Wiring,
+    registry: &Registry,
     checks: &mut Checks,
     place: u16,
     port: u64,
@@ -179,9 +182,9 @@ pub fn arrive(
     requires epochs { 0 < directory.now.settings.epoch }
     ensures same { wiring.new ≡ wiring.old }
     ensures reaction { IfOk result (λ reaction.
-        reaction ≡ kept_at_place directory.now wiring.old.links checks.old now place (slice_get directory.now.routers place) port bytes.now) }
+        reaction ≡ kept_at_place directory.now wiring.old.links registry.now checks.old now place (slice_get directory.now.routers place) port bytes.now) }
     ensures after { OnOk result (
-        checks.new ≡ after_place directory.now wiring.old.links checks.old now place (slice_get directory.now.routers place) port bytes.now) }
+        checks.new ≡ after_place directory.now wiring.old.links registry.now checks.old now place (slice_get directory.now.routers place) port bytes.now) }
     ensures boot { checks.new.boot ≡ checks.old.boot }
 {
     match directory.routers().get(place as usize) {
@@ -192,7 +195,7 @@ pub fn arrive(
                 port,
                 time: now,
             };
-            take_in(alloc, directory, wiring, checks, &at, bytes)
+            take_in(alloc, directory, wiring, registry, checks, &at, bytes)
         }
         None => Ok(Reaction::nothing(alloc)),
     }

@@ -13,6 +13,7 @@ use crate::directory::Directory;
 use crate::router;
 use crate::wiring::Wiring;
 use aip_event::Input;
+use aip_registry::Registry;
 use aip_rules::Reaction;
 use aip_topo::Settings;
 use std::alloc::{AllocError, Global};
@@ -39,6 +40,7 @@ pub fn arrive_at(
     alloc: Global,
     directory: &Directory,
     wiring: &mut Wiring,
+    registry: &Registry,
     routers: &mut Vec<Checks>,
     place: u16,
     port: u64,
@@ -52,15 +54,16 @@ pub fn arrive_at(
     ensures count { length routers.new.items ≡ length routers.old.items }
     ensures boots { (n : ℕ) → All (IsBootedUpTo n) routers.old.items → All (IsBootedUpTo n) routers.new.items }
     ensures reaction { IfOk result (λ reaction. (state : RouterState) → slice_get routers.old.items place ≡ Some state
-        → reaction ≡ kept_at_place directory.now wiring.old.links state now place (slice_get directory.now.routers place) port bytes.now) }
+        → reaction ≡ kept_at_place directory.now wiring.old.links registry.now state now place (slice_get directory.now.routers place) port bytes.now) }
     ensures after { OnOk result (MovesAt RouterState (Some place)
-        (λ old new. new ≡ after_place directory.now wiring.old.links old now place (slice_get directory.now.routers place) port bytes.now)
+        (λ old new. new ≡ after_place directory.now wiring.old.links registry.now old now place (slice_get directory.now.routers place) port bytes.now)
         routers.old.items routers.new.items) }
 {
     router::arrive(
         alloc,
         directory,
         wiring,
+        registry,
         &mut routers[place as usize],
         place,
         port,
