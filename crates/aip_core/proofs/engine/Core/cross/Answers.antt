@@ -15,17 +15,19 @@ returns-in_ok-arrive_at-in-Some c =
       flights = c.self.inside.flights;
       hosts = c.self.inside.hosts.items;
       routers = c.arrive_at.new.routers.items;
+      records = c.self.inside.registry;
       ticks = c.self.inside.ticks;
       inputs = c.self.inside.inputs;
     } in
     let topo = c.self.inside.directory in
     let links = c.self.inside.wiring.links in
+    let records = c.self.inside.registry in
     crosses_in_core _ c.args.self.now _ c.args.flight c.args.place c.args.port c.in-Some.found.now c.in_ok-arrive_at-in-Some.field-0 c.self.view_is
     (ap core c.arrive_at.ensures.same)
     (subst (λ (k : Kept). length k.routers ≡ length k.topo.routers) c.self.view_is c.self.invariant.routers)
     c.requires.there c.requires.port
     (sym c.find.ensures ∙ ap option_copied c.in-Some.is)
-    (λ state at. subst (λ bytes. c.in_ok-arrive_at-in-Some.field-0 ≡ kept_at_place topo links state c.self.inside.ticks c.args.place (slice_get topo.routers c.args.place) c.args.port bytes)
+    (λ state at. subst (λ bytes. c.in_ok-arrive_at-in-Some.field-0 ≡ kept_at_place topo links records state c.self.inside.ticks c.args.place (slice_get topo.routers c.args.place) c.args.port bytes)
     c.as_slice.ensures (c.in_ok-arrive_at-in-Some.ensures.reaction state at))
-    (subst (λ bytes. MovesAt RouterState (Some c.args.place) (λ old new. new ≡ after_place topo links old c.self.inside.ticks c.args.place (slice_get topo.routers c.args.place) c.args.port bytes)
+    (subst (λ bytes. MovesAt RouterState (Some c.args.place) (λ old new. new ≡ after_place topo links records old c.self.inside.ticks c.args.place (slice_get topo.routers c.args.place) c.args.port bytes)
     c.self.inside.routers.items c.arrive_at.new.routers.items) c.as_slice.ensures c.in_ok-arrive_at-in-Some.ensures.after)
