@@ -167,7 +167,7 @@ impl Core {
     /// The core of a topology before any input, all links up. It stands for the empty trace. The only error is want of
     /// memory.
     pub fn new(alloc: Global, topology: Topology) -> Result<Core, AllocError>
-        requires sound { IsSound topology }
+        requires { IsSound topology }
         ensures { IfOk result (λ core. StandsFor topology [] core) }
     {
         Core::start(alloc, topology)
