@@ -57,7 +57,6 @@ fn tell(rt: &impl Eprint, status: Status) -> io::Result<()> {
             let word = word_of(fault);
             eprintln!(rt; "aip: lease {word}")
         }
-        Status::Unbuilt => eprintln!(rt; "aip: unbuilt"),
         Status::Memory => eprintln!(rt; "aip: out of memory"),
     }
 }

@@ -115,7 +115,6 @@ cut_or run_end.Memory expected unread short rose unwritten = inr (inl refl)
 cut_or run_end.Done expected unread short rose unwritten = absurd short
 cut_or (run_end.Topology line f) expected unread short rose unwritten = absurd short
 cut_or (run_end.Schedule line f) expected unread short rose unwritten = absurd short
-cut_or run_end.Unbuilt expected unread short rose unwritten = absurd short
 
 -- a refused topology cuts nothing short
 not_both : (end : RunEnd) → IsCutShort end → is_topology_refused end ≡ true → ⊥
@@ -125,7 +124,6 @@ not_both run_end.Memory short is = cc
 not_both run_end.Done short is = short
 not_both (run_end.Topology line f) short is = short
 not_both (run_end.Schedule line f) short is = short
-not_both run_end.Unbuilt short is = short
 
 -- how the topology text decides a run that was never opened
 pub judges_unopened : (t : Option (List ℕ)) (unread unwritten : Type 0) (end : RunEnd) → unwritten → (end ≡ run_end.ReadFault → unread) → end ≢ run_end.WriteFault → IfSome t (λ told. IsUnopened told end)

@@ -10,8 +10,8 @@ use Rattle.aip_topo.specs.declared.topology.Topology.{Topology}
 use Rattle.aip_rules.specs.declared.Entry.{Entry}
 use Rattle.aip_rules.specs.declared.Entry.TheVariants.{Taken, Happened}
 use Rattle.aip_rules.specs.declared.StepFault.{StepFault}
-use Rattle.aip_rules.specs.Step.{is_built, step_of, with_events, after_step}
-use Rattle.aip_rules.specs.Texts.{Ending, Ran, by_line, by_input, by_step, ran_from, scheduled, text_of, text_of_run, ending_text, line_of, refusal_line}
+use Rattle.aip_rules.specs.Step.{step_of, with_events, after_step}
+use Rattle.aip_rules.specs.Texts.{Ending, Ran, by_line, by_step, ran_from, scheduled, text_of, text_of_run, ending_text, line_of, refusal_line}
 use Rattle.aip_rules.specs.Texts as texts
 use Rattle.aip_core.specs.Kept.{Kept}
 use Rattle.aip_core.specs.StandsFor.{StandsFor, IsStep}
@@ -48,21 +48,15 @@ text_after tr input line events spelled =
 abbrev behind : Topology → ℕ → List (List ℕ) → List Entry → Ran
 behind topo number lines after = ran_from topo after (number + 1) lines
 
--- a line that is an input leads to what comes of it
+-- a line leads to what comes of what it is
 ran_line : (topo : Topology) (tr : List Entry) (number : ℕ) (line : List ℕ) (lines : List (List ℕ)) (r : Result (Option Input) StepFault) → scheduled number line ≡ r
     → ran_from topo tr number (line ∷ lines) ≡ by_line topo tr number (behind topo number lines) r
 ran_line topo tr number line lines r read = ap (by_line topo tr number (behind topo number lines)) read
 
-by_built : (topo : Topology) (tr : List Entry) (number : ℕ) (go : List Entry → Ran) (input : Input) (b : Bool) → is_built input ≡ b
-    → by_input topo tr number go input ≡ cond b (by_step tr number input go (step_of topo tr input)) (record { trace = tr; ending = texts.Input_unbuilt number })
-by_built topo tr number go input b is =
-    ap (λ t. cond t (by_step tr number input go (step_of topo tr input)) (record { trace = tr; ending = texts.Input_unbuilt number })) is
-
--- the step of an input that is built
-ran_input : (topo : Topology) (tr : List Entry) (number : ℕ) (line : List ℕ) (lines : List (List ℕ)) (input : Input) → scheduled number line ≡ Ok (Some input) → is_built input ≡ true
+-- a line that is an input leads to what comes of its step
+ran_input : (topo : Topology) (tr : List Entry) (number : ℕ) (line : List ℕ) (lines : List (List ℕ)) (input : Input) → scheduled number line ≡ Ok (Some input)
     → ran_from topo tr number (line ∷ lines) ≡ by_step tr number input (behind topo number lines) (step_of topo tr input)
-ran_input topo tr number line lines input read built =
-    ran_line topo tr number line lines (Ok (Some input)) read ∙ by_built topo tr number (behind topo number lines) input true built
+ran_input topo tr number line lines input read = ran_line topo tr number line lines (Ok (Some input)) read
 
 -- ## The rest of a run lengthens its text
 
@@ -89,17 +83,11 @@ step_lengthens : (tr : List Entry) (number : ℕ) (input : Input) (go : List Ent
 step_lengthens tr number input go (Ok events) rest = begins_after tr input events _ (rest (after_step tr input events))
 step_lengthens tr number input go (Err f) rest = ends_at tr (texts.Schedule_refused number f)
 
-built_lengthens : (topo : Topology) (tr : List Entry) (number : ℕ) (input : Input) (go : List Entry → Ran) (b : Bool)
-    → ((after : List Entry) → Begins (text_of after) (text_of_run (go after)))
-    → Begins (text_of tr) (text_of_run (cond b (by_step tr number input go (step_of topo tr input)) (record { trace = tr; ending = texts.Input_unbuilt number })))
-built_lengthens topo tr number input go true rest = step_lengthens tr number input go (step_of topo tr input) rest
-built_lengthens topo tr number input go false rest = ends_at tr (texts.Input_unbuilt number)
-
 line_lengthens : (topo : Topology) (tr : List Entry) (number : ℕ) (go : List Entry → Ran) (r : Result (Option Input) StepFault)
     → ((after : List Entry) → Begins (text_of after) (text_of_run (go after))) → Begins (text_of tr) (text_of_run (by_line topo tr number go r))
 line_lengthens topo tr number go (Err f) rest = ends_at tr (texts.Schedule_refused number f)
 line_lengthens topo tr number go (Ok None) rest = rest tr
-line_lengthens topo tr number go (Ok (Some input)) rest = built_lengthens topo tr number input go (is_built input) rest
+line_lengthens topo tr number go (Ok (Some input)) rest = step_lengthens tr number input go (step_of topo tr input) rest
 
 lengthens : (topo : Topology) (tr : List Entry) (number : ℕ) (lines : List (List ℕ)) → Begins (text_of tr) (text_of_run (ran_from topo tr number lines))
 lengthens topo tr number [] = ends_at tr texts.Done
@@ -116,7 +104,6 @@ pub not_cut_short : (e : Ending) → IsCutShort (run_end_of e) → ⊥
 not_cut_short texts.Done h = h
 not_cut_short (texts.Topology_refused line f) h = h
 not_cut_short (texts.Schedule_refused line f) h = h
-not_cut_short (texts.Input_unbuilt line) h = h
 
 -- a run that is cut short, with a first part of its text taken
 cut : (topo : Topology) (whole : Ran) (start now : Option (List ℕ)) (end : RunEnd) → IsCutShort end → TookPart start now (text_of_run whole) → HasEnded topo whole start now end None
@@ -167,26 +154,26 @@ refused_line topo core number line before lines f start mid whole first read cam
 
 -- an input is refused by its step
 pub refused_step : (topo : Topology) (core after : Kept) (number : ℕ) (line : List ℕ) (lines : List (List ℕ)) (input : Input) (f : StepFault) (start mid : Option (List ℕ)) (whole : Ran)
-    → scheduled number line ≡ Ok (Some input) → is_built input ≡ true → IsRefusal core input (step_end.Refused after f)
+    → scheduled number line ≡ Ok (Some input) → IsRefusal core input (step_end.Refused after f)
     → HasCome topo core number (line ∷ lines) start mid whole → IsRefusedHere topo after number f start mid whole
-refused_step topo core after number line lines input f start mid whole read built refusal came = record {
+refused_step topo core after number line lines input f start mid whole read refusal came = record {
   trace = came.trace;
   stands = subst (StandsFor topo came.trace) (sym refusal.0) came.stands;
-  refused = sym came.rest ∙ ran_input topo came.trace number line lines input read built
+  refused = sym came.rest ∙ ran_input topo came.trace number line lines input read
       ∙ ap (by_step came.trace number input (behind topo number lines)) (refusal.1 topo came.trace came.stands);
   took = came.took;
 }
 
 -- an input is stepped
 pub steps : (topo : Topology) (core after : Kept) (number : ℕ) (line : List ℕ) (lines : List (List ℕ)) (input : Input) (events : List Event) (start mid : Option (List ℕ)) (whole : Ran)
-    → line ≡ input_line input → scheduled number line ≡ Ok (Some input) → is_built input ≡ true → IsStep core input after events
+    → line ≡ input_line input → scheduled number line ≡ Ok (Some input) → IsStep core input after events
     → HasCome topo core number (line ∷ lines) start mid whole → IsStepped topo after number lines line events start mid whole
-steps topo core after number line lines input events start mid whole spelled read built step came =
+steps topo core after number line lines input events start mid whole spelled read step came =
     let stepped = step topo came.trace came.stands in record {
       trace = after_step came.trace input events;
       before = text_of came.trace;
       stands = stepped.1;
-      rest = sym (ap (by_step came.trace number input (behind topo number lines)) stepped.0) ∙ sym (ran_input topo came.trace number line lines input read built) ∙ came.rest;
+      rest = sym (ap (by_step came.trace number input (behind topo number lines)) stepped.0) ∙ sym (ran_input topo came.trace number line lines input read) ∙ came.rest;
       text = text_after came.trace input line events spelled;
       took = came.took;
     }

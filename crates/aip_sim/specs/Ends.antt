@@ -12,7 +12,6 @@ abbrev pub run_end_of : Ending → RunEnd
 run_end_of texts.Done = run_end.Done
 run_end_of (texts.Topology_refused line f) = run_end.Topology line f
 run_end_of (texts.Schedule_refused line f) = run_end.Schedule line f
-run_end_of (texts.Input_unbuilt line) = run_end.Unbuilt
 
 -- the answer where no topology could be read
 abbrev pub run_end_without : TopologyEnd → RunEnd
@@ -28,7 +27,6 @@ IsCutShort run_end.Memory = ⊤
 IsCutShort run_end.Done = ⊥
 IsCutShort (run_end.Topology line f) = ⊥
 IsCutShort (run_end.Schedule line f) = ⊥
-IsCutShort run_end.Unbuilt = ⊥
 
 -- the answers with which a core comes back: the schedule was taken to its end, or to a refused line
 abbrev pub gives_core : RunEnd → Bool
@@ -37,7 +35,6 @@ gives_core (run_end.Schedule line f) = true
 gives_core run_end.ReadFault = false
 gives_core run_end.WriteFault = false
 gives_core (run_end.Topology line f) = false
-gives_core run_end.Unbuilt = false
 gives_core run_end.Memory = false
 
 -- the topology is refused
@@ -47,5 +44,4 @@ is_topology_refused run_end.Done = false
 is_topology_refused run_end.ReadFault = false
 is_topology_refused run_end.WriteFault = false
 is_topology_refused (run_end.Schedule line f) = false
-is_topology_refused run_end.Unbuilt = false
 is_topology_refused run_end.Memory = false

@@ -4,7 +4,6 @@ ghost use Rattle.aip_text.specs.Lines.{lines_of};
 ghost use Rattle.aip_event.specs.Lines.{input_line};
 ghost use Rattle.aip_io.specs.Lines.{left_of};
 ghost use Rattle.aip_topo.specs.declared.topology.Topology.{Topology};
-ghost use Rattle.aip_rules.specs.Step.{is_built};
 ghost use Rattle.aip_rules.specs.Texts.{Ran, scheduled};
 ghost use Rattle.aip_sim.specs.Causes.{HasCause, ReadsOnly};
 ghost use Rattle.aip_sim.specs.Turns.{EndsWith, HasCome, IsGoing, IsKnown, IsRefusedHere, IsStepped, IsTurn};
@@ -25,12 +24,6 @@ pub enum Turn {
     Goes(Core),
     /// The run ends.
     Ends(RunEnd, Option<Core>),
-}
-
-fn is_built(input: &Input) -> bool
-    ensures { result ≡ is_built input.now }
-{
-    !matches!(input, Input::Publish { .. })
 }
 
 // Ends the run at a refused line, whose refusal line is written.
@@ -88,9 +81,6 @@ fn take_input<K: Sink>(
     ensures unread { EndsWith RunEnd.ReadFault result → ⊥ }
     ensures sink { HasCause (EndsWith RunEnd.WriteFault result) (K.faults out.old) (K.faults out.new) }
 {
-    if !is_built(&input) {
-        return Turn::Ends(RunEnd::Unbuilt, None);
-    }
     match core.step(alloc, input) {
         Ok((core, events)) => go_on(alloc, core, line, events.as_slice(), out),
         Err(StepEnd::Refused { core, fault }) => refuse(alloc, core, number, fault, out),

@@ -81,7 +81,6 @@ ends_told file status.Memory A B C says late write disk a b c = absurd (late tt)
 ends_told file status.Usage A B C says late write disk a b c = absurd says
 ends_told file (status.Topology line f) A B C says late write disk a b c = absurd says
 ends_told file (status.Schedule line f) A B C says late write disk a b c = absurd says
-ends_told file status.Unbuilt A B C says late write disk a b c = absurd says
 
 -- the same over every disk
 lease_ends : (content : Option (List ℕ)) (end : Status) (A B C : Type 0) → LeaseSays content end → (IsBeforeDisk end → ⊥) → (end ≡ status.WriteFault → B)

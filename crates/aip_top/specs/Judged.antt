@@ -62,4 +62,3 @@ IsOpeningEnd status.WriteFault = ⊥
 IsOpeningEnd (status.Schedule line f) = ⊥
 IsOpeningEnd status.DiskFault = ⊥
 IsOpeningEnd (status.Lease f) = ⊥
-IsOpeningEnd status.Unbuilt = ⊥

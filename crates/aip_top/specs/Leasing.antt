@@ -87,7 +87,6 @@ LeaseSays told (status.Topology line f) = ⊥
 LeaseSays told (status.Schedule line f) = ⊥
 LeaseSays told (status.Lease fault.Unknown) = ⊥
 LeaseSays told (status.Lease fault.Keyless) = ⊥
-LeaseSays told status.Unbuilt = ⊥
 
 -- the status comes before a lease touches the disk: a refusal, a fault of reading, or want of memory
 abbrev pub IsBeforeDisk : Status → Type 0
@@ -102,7 +101,6 @@ IsBeforeDisk status.Usage = ⊥
 IsBeforeDisk status.WriteFault = ⊥
 IsBeforeDisk (status.Schedule line f) = ⊥
 IsBeforeDisk status.DiskFault = ⊥
-IsBeforeDisk status.Unbuilt = ⊥
 
 -- the file was formatted: all was done, or but the writing failed
 abbrev pub IsFormatted : Status → Type 0

@@ -22,7 +22,6 @@ exit_code_of (status.Schedule line f) = 6
 exit_code_of status.DiskFault = 8
 exit_code_of status.Memory = 9
 exit_code_of (status.Lease f) = 10
-exit_code_of status.Unbuilt = 12
 
 -- the status of an answer of a run
 abbrev pub status_of_run : RunEnd → Status
@@ -31,7 +30,6 @@ status_of_run run_end.ReadFault = status.ReadFault
 status_of_run run_end.WriteFault = status.WriteFault
 status_of_run (run_end.Topology line f) = status.Topology line f
 status_of_run (run_end.Schedule line f) = status.Schedule line f
-status_of_run run_end.Unbuilt = status.Unbuilt
 status_of_run run_end.Memory = status.Memory
 
 -- the status that tells how a run ends
@@ -68,4 +66,3 @@ kind_of (status.Lease fault.Unknown) = record { answers = is_lease; writes = is_
 kind_of (status.Lease fault.Keyless) = record { answers = is_lease; writes = is_never; meets_disk = is_never; gives_core = is_never; refuses = true; cuts_short = false }
 kind_of (status.Lease (fault.Already id height)) = record { answers = is_lease; writes = is_never; meets_disk = is_lease; gives_core = is_never; refuses = false; cuts_short = false }
 kind_of status.Memory = record { answers = is_any_command; writes = is_run; meets_disk = is_never; gives_core = is_never; refuses = false; cuts_short = true }
-kind_of status.Unbuilt = record { answers = is_run; writes = is_run; meets_disk = is_never; gives_core = is_never; refuses = false; cuts_short = false }

@@ -47,9 +47,6 @@ pub enum Status {
         /// The first fault that applies to it.
         fault: StepFault,
     },
-    /// An input of the schedule is of a kind that isn't built yet. What was taken is the text of the
-    /// inputs before it.
-    Unbuilt,
     /// The disk failed.
     DiskFault,
     /// There was no memory.
@@ -73,7 +70,6 @@ impl Status {
             Status::DiskFault => 8,
             Status::Memory => 9,
             Status::Lease(_) => 10,
-            Status::Unbuilt => 12,
         }
     }
 }
@@ -117,7 +113,6 @@ impl From<RunEnd> for Status {
             RunEnd::WriteFault => Status::WriteFault,
             RunEnd::Topology { line, fault } => Status::Topology { line, fault },
             RunEnd::Schedule { line, fault } => Status::Schedule { line, fault },
-            RunEnd::Unbuilt => Status::Unbuilt,
             RunEnd::Memory => Status::Memory,
         }
     }
