@@ -92,27 +92,27 @@ place_low seats name (Some p) is =
 
 -- what a host does by an input that lets it send
 pub send_acts : (topo : Topology) (flights : List Flight) (now : ℕ) (host new : HostState) (input : Input) (name node : List ℕ) (packet : ℕ) (body bytes : List ℕ) (to : Option Address) (result : Result Reaction NoReaction)
-    → input ≡ Send name node packet body → to ≡ address_named topo node → bytes ≡ body → Does (kept_sent now host to packet bytes) GoesOn host result new
-    → Does (host_outcome topo flights now host input) (HostMoves input) host result new
+    → input ≡ Send name node packet body → to ≡ address_named topo node → bytes ≡ body → Does (kept_sent now host to packet bytes) (GoesOn now) host result new
+    → Does (host_outcome topo flights now host input) (HostMoves now input) host result new
 send_acts topo flights now host new input name node packet body bytes to result is found same does =
-    subst (λ (i : Input). Does (host_outcome topo flights now host i) (HostMoves i) host result new) (sym is)
-    (subst (λ b. Does (kept_sent now host (address_named topo node) packet b) GoesOn host result new) same
-    (subst (λ (o : Option Address). Does (kept_sent now host o packet bytes) GoesOn host result new) found does))
+    subst (λ (i : Input). Does (host_outcome topo flights now host i) (HostMoves now i) host result new) (sym is)
+    (subst (λ b. Does (kept_sent now host (address_named topo node) packet b) (GoesOn now) host result new) same
+    (subst (λ (o : Option Address). Does (kept_sent now host o packet bytes) (GoesOn now) host result new) found does))
 
 -- or to put bytes as they are
 pub raw_acts : (topo : Topology) (flights : List Flight) (now : ℕ) (host new : HostState) (input : Input) (name given bytes : List ℕ) (result : Result Reaction NoReaction)
-    → input ≡ Raw name given → bytes ≡ given → Does (kept_raw now host bytes) GoesOn host result new
-    → Does (host_outcome topo flights now host input) (HostMoves input) host result new
+    → input ≡ Raw name given → bytes ≡ given → Does (kept_raw now host bytes) (GoesOn now) host result new
+    → Does (host_outcome topo flights now host input) (HostMoves now input) host result new
 raw_acts topo flights now host new input name given bytes result is same does =
-    subst (λ (i : Input). Does (host_outcome topo flights now host i) (HostMoves i) host result new) (sym is)
-    (subst (λ b. Does (kept_raw now host b) GoesOn host result new) same does)
+    subst (λ (i : Input). Does (host_outcome topo flights now host i) (HostMoves now i) host result new) (sym is)
+    (subst (λ b. Does (kept_raw now host b) (GoesOn now) host result new) same does)
 
 -- or that starts it anew
 pub restart_acts : (topo : Topology) (flights : List Flight) (now : ℕ) (host new : HostState) (input : Input) (node : List ℕ) (result : Result Reaction NoReaction)
     → input ≡ Restart node → Does (Ok (back_up (standing_of host now))) (λ reaction. IsAnew) host result new
-    → Does (host_outcome topo flights now host input) (HostMoves input) host result new
+    → Does (host_outcome topo flights now host input) (HostMoves now input) host result new
 restart_acts topo flights now host new input node result is does =
-    subst (λ (i : Input). Does (host_outcome topo flights now host i) (HostMoves i) host result new) (sym is) does
+    subst (λ (i : Input). Does (host_outcome topo flights now host i) (HostMoves now i) host result new) (sym is) does
 
 -- ---- in a core
 
@@ -139,7 +139,7 @@ none_moves A place moves xs none = record {
 
 does_in : (kept next : Kept) (input : Input) (outcome : Result Reaction StepFault) (p : ℕ) (result : Result Reaction NoReaction) → next ≡ record kept { hosts = next.hosts }
     → host_touched kept.topo kept.flights input ≡ Some p
-    → Does outcome (λ reaction old new. MovesAt HostState (Some p) (HostMoves input reaction) old new) kept.hosts result next.hosts
+    → Does outcome (λ reaction old new. MovesAt HostState (Some p) (HostMoves kept.ticks input reaction) old new) kept.hosts result next.hosts
     → Does outcome (λ reaction old new. Moved old input reaction new) kept result next
 does_in kept next input outcome p (Ok reaction) is touched does = (
   does.0,
@@ -149,7 +149,7 @@ does_in kept next input outcome p (Ok reaction) is touched does = (
     flights = ap (λ (k : Kept). k.flights) is;
     ticks = ap (λ (k : Kept). k.ticks) is;
     inputs = ap (λ (k : Kept). k.inputs) is;
-    hosts = subst (λ (o : Option ℕ). MovesAt HostState o (HostMoves input reaction) kept.hosts next.hosts) (sym touched) does.1;
+    hosts = subst (λ (o : Option ℕ). MovesAt HostState o (HostMoves kept.ticks input reaction) kept.hosts next.hosts) (sym touched) does.1;
     routers = subst (λ (rs : List RouterState). MovesAt RouterState (router_touched kept.topo kept.flights input) (RouterMoves kept (router_touched kept.topo kept.flights input) input) kept.routers rs)
         (sym (ap (λ (k : Kept). k.routers) is))
         (none_moves RouterState (router_touched kept.topo kept.flights input) (RouterMoves kept (router_touched kept.topo kept.flights input) input) kept.routers
@@ -163,7 +163,7 @@ does_in kept next input outcome p (Err no.Memory) is touched does = tt
 pub acts_in_core : (inside kept next : Kept) (input : Input) (place : ℕ) (result : Result Reaction NoReaction) (host : HostState) → inside ≡ kept → next ≡ record inside { hosts = next.hosts }
     → host_touched kept.topo kept.flights input ≡ Some place → slice_get kept.hosts place ≡ Some host
     → (slice_get inside.hosts place ≡ Some host
-    → Does (host_outcome inside.topo inside.flights inside.ticks host input) (λ reaction old new. MovesAt HostState (Some place) (HostMoves input reaction) old new) inside.hosts result next.hosts)
+    → Does (host_outcome inside.topo inside.flights inside.ticks host input) (λ reaction old new. MovesAt HostState (Some place) (HostMoves inside.ticks input reaction) old new) inside.hosts result next.hosts)
     → Does (host_outcome kept.topo kept.flights kept.ticks host input) (λ reaction old new. Moved old input reaction new) kept result next
 acts_in_core inside kept next input place result host same is touched at does =
     subst (λ (k : Kept). host_touched k.topo k.flights input ≡ Some place → slice_get k.hosts place ≡ Some host
@@ -260,9 +260,9 @@ crosses kept next number place port flight state reaction name is put goes named
         flights = ap (λ (k : Kept). k.flights) is;
         ticks = ap (λ (k : Kept). k.ticks) is;
         inputs = ap (λ (k : Kept). k.inputs) is;
-        hosts = subst (λ (hs : List HostState). MovesAt HostState (host_touched kept.topo kept.flights (Deliver number)) (HostMoves (Deliver number) reaction) kept.hosts hs)
+        hosts = subst (λ (hs : List HostState). MovesAt HostState (host_touched kept.topo kept.flights (Deliver number)) (HostMoves kept.ticks (Deliver number) reaction) kept.hosts hs)
             (sym (ap (λ (k : Kept). k.hosts) is))
-            (none_moves HostState (host_touched kept.topo kept.flights (Deliver number)) (HostMoves (Deliver number) reaction) kept.hosts unreached);
+            (none_moves HostState (host_touched kept.topo kept.flights (Deliver number)) (HostMoves kept.ticks (Deliver number) reaction) kept.hosts unreached);
         routers = subst (λ (o : Option ℕ). MovesAt RouterState o (RouterMoves kept o (Deliver number)) kept.routers next.routers) (sym touched) (record {
           count = moves.count;
           here = λ n a b same before behind. moves.here n a b same before behind ∙ after a;

@@ -16,19 +16,19 @@ use Rattle.aip_rules.specs.declared.Reaction.{Reaction}
 use Rattle.aip_rules.specs.declared.Seat.{Seat}
 use Rattle.aip_rules.specs.declared.StepFault.{StepFault}
 use Rattle.aip_rules.specs.declared.StepFault.TheVariants as fault
-use Rattle.aip_rules.specs.State.{flights_of}
-use Rattle.aip_rules.specs.Nodes.{seats_of, seat_named, router_named, key_named, is_guarded}
+use Rattle.aip_rules.specs.State.{now_of, flights_of}
+use Rattle.aip_rules.specs.Nodes.{seats_of, seat_named, router_named, key_named}
 use Rattle.aip_rules.specs.Reaction.{nothing, numbered}
 use Rattle.aip_rules.specs.Standing.{standing, lets_act}
 use Rattle.aip_rules.specs.Host.{back_up}
 use Rattle.aip_rules.specs.Step.{has_key, refused_if, after_step, stop_armed, halt_armed, restarted, outcome_of}
 use Rattle.aip_host.specs.Elsewhere.{concerns, resets, AreElsewhere as ConcernNone}
 use Rattle.aip_host.specs.HostState.{HostState}
-use Rattle.aip_host.specs.StandsFor.{DiskSpends, StandsFor as HostStands}
-use Rattle.aip_host.proofs.Corresponds.{follows, says_nothing}
+use Rattle.aip_host.specs.StandsFor.{DisksServe, StandsFor as HostStands}
+use Rattle.aip_host.proofs.Corresponds.{follows}
 use Rattle.aip_host.proofs.Inputs.{stops, halts, restarts, others_stay}
 use Rattle.aip_core.specs.Machine.{seat_place}
-use Rattle.aip_core.specs.Moves.{MovesAt, GoesOn, IsStopped, IsAnew, HostMoves, host_named_by, host_touched, router_touched}
+use Rattle.aip_core.specs.Moves.{MovesAt, GoesOn, IsStopped, IsHalted, IsAnew, HostMoves, host_named_by, host_touched, router_touched}
 use Rattle.aip_core.specs.StandsFor.{HostsStand}
 use Rattle.aip_core.proofs.Keys.{found_at}
 use Rattle.aip_core.proofs.Positions.{PassesAt, none_passes, position_passes}
@@ -51,10 +51,11 @@ all_unconcerned : (events : List Event) (name : List ℕ) → AreElsewhere name 
 all_unconcerned [] name are = tt
 all_unconcerned (event ∷ events) name are = (unconcerned event name are.0, all_unconcerned events name are.1)
 
--- an input that names another host neither stops nor restarts this one
+-- an input that names another host neither stops nor halts this one, and starts it not anew
 no_reset : (tr : List Entry) (input : Input) (name : List ℕ) → IsUnnamed (flights_of tr) input name → resets input name ≡ false
 no_reset tr (Restart node) name other = other node refl
 no_reset tr (Stop host call byte) name other = other host refl
+no_reset tr (Halt host call byte) name other = other host refl
 no_reset tr input name other = refl
 
 -- the events of a step that doesn't reach a host name it nowhere
@@ -100,11 +101,6 @@ halt_says : (seat : Option Seat) (call byte : ℕ) → SaysNothing (halt_armed s
 halt_says None call byte = tt
 halt_says (Some seat) call byte = unless ((call == 0) || (nat_lt 4 call || nat_le 256 byte)) fault.Range (Ok nothing) refl
 
-restart_says : (topo : Topology) (tr : List Entry) (seat : Option Seat) (router : Option ℕ) → ((s : Seat) → seat ≡ Some s → is_guarded topo.parts s.name ≡ false) → SaysNothing (restarted topo tr seat router)
-restart_says topo tr (Some seat) router plain = says_nothing topo tr seat (plain seat refl)
-restart_says topo tr None (Some router) plain = refl
-restart_says topo tr None None plain = tt
-
 said : (outcome : Result Reaction StepFault) (reaction : Reaction) → SaysNothing outcome → outcome ≡ Ok reaction → reaction ≡ nothing
 said outcome reaction says given = subst (λ (o : Result Reaction StepFault). SaysNothing o) given says
 
@@ -121,51 +117,52 @@ module _ (topo : Topology) (tr : List Entry) (seat : Seat) (old new : HostState)
   stopped host call byte stands named moves none =
       subst (λ (r : Reaction). After (Stop host call byte) r) (sym none)
       (subst (λ (s : HostState). HostStands topo (after_step tr (Stop host call byte) []) seat s) (sym moves.stopped)
-      (stops topo tr seat old host call byte stands named moves.keyed (subst (λ (s : HostState). DiskSpends s.key) moves.stopped moves.disk)))
+      (stops topo tr seat old host call byte stands named moves.keyed (subst DisksServe moves.stopped moves.disks)))
 
-  halted : (host : List ℕ) (call byte : ℕ) → HostStands topo tr seat old → new ≡ old → reaction ≡ nothing → After (Halt host call byte) reaction
-  halted host call byte stands same none =
+  halted : (host : List ℕ) (call byte : ℕ) → HostStands topo tr seat old → bytes_eq host seat.name ≡ true → IsHalted (record { call = call; byte = byte }) old new → reaction ≡ nothing
+      → After (Halt host call byte) reaction
+  halted host call byte stands named moves none =
       subst (λ (r : Reaction). After (Halt host call byte) r) (sym none)
-      (subst (λ (s : HostState). HostStands topo (after_step tr (Halt host call byte) []) seat s) (sym same) (halts topo tr seat old host call byte stands))
+      (subst (λ (s : HostState). HostStands topo (after_step tr (Halt host call byte) []) seat s) (sym moves.halted)
+      (halts topo tr seat old host call byte stands named (subst DisksServe moves.halted moves.disks)))
 
-  anew : (node : List ℕ) → HostStands topo tr seat old → bytes_eq node seat.name ≡ true → IsAnew old new → reaction ≡ nothing → After (Restart node) reaction
-  anew node stands named moves none =
-      subst (λ (r : Reaction). After (Restart node) r) (sym none) (restarts topo tr seat old new node stands named moves.anew moves.disk)
+  anew : (node : List ℕ) → HostStands topo tr seat old → bytes_eq node seat.name ≡ true → IsAnew old new → reaction ≡ back_up (standing topo tr seat) → After (Restart node) reaction
+  anew node stands named moves says =
+      subst (λ (r : Reaction). After (Restart node) r) (sym says) (restarts topo tr seat old new node number stands named moves.anew moves.disks)
 
-  acted : (input : Input) → HostStands topo tr seat old → GoesOn reaction old new → lets_act tr input seat.name ≡ true → After input reaction
-  acted input stands moves acts = follows topo tr seat old new input number reaction stands moves.follows moves.disk acts
+  acted : (input : Input) → HostStands topo tr seat old → GoesOn (now_of tr) reaction old new → lets_act tr input seat.name ≡ true → After input reaction
+  acted input stands moves acts = follows topo tr seat old new input number reaction stands moves.follows moves.disks acts
 
 -- the host that a step reaches stands for the longer trace as it moved
 touched_stands : (topo : Topology) (tr : List Entry) (input : Input) (reaction : Reaction) (number p : ℕ) (seat : Seat) (old new : HostState) → outcome_of topo tr input ≡ Ok reaction
-    → is_guarded topo.parts seat.name ≡ false → seat_named (seats_of topo) seat.name ≡ Some seat
-    → host_named_by (flights_of tr) input ≡ Some seat.name → HostStands topo tr seat old → HostMoves input reaction old new
+    → seat_named (seats_of topo) seat.name ≡ Some seat
+    → host_named_by (flights_of tr) input ≡ Some seat.name → HostStands topo tr seat old → HostMoves (now_of tr) input reaction old new
     → HostStands topo (after_step tr input (numbered number reaction)) seat new
-touched_stands topo tr (Send host node packet body) reaction number p seat old new given plain found named stands moves =
+touched_stands topo tr (Send host node packet body) reaction number p seat old new given found named stands moves =
     acted topo tr seat old new number reaction (Send host node packet body) stands moves (same_bytes host seat.name named)
-touched_stands topo tr (Raw host bytes) reaction number p seat old new given plain found named stands moves =
+touched_stands topo tr (Raw host bytes) reaction number p seat old new given found named stands moves =
     acted topo tr seat old new number reaction (Raw host bytes) stands moves (same_bytes host seat.name named)
-touched_stands topo tr (Shutoff host flight ttl) reaction number p seat old new given plain found named stands moves =
+touched_stands topo tr (Shutoff host flight ttl) reaction number p seat old new given found named stands moves =
     acted topo tr seat old new number reaction (Shutoff host flight ttl) stands moves (same_bytes host seat.name named)
-touched_stands topo tr (Deliver flight) reaction number p seat old new given plain found named stands moves =
+touched_stands topo tr (Deliver flight) reaction number p seat old new given found named stands moves =
     acted topo tr seat old new number reaction (Deliver flight) stands moves (delivery_acts tr flight seat.name named)
-touched_stands topo tr (Stop host call byte) reaction number p seat old new given plain found named stands moves =
+touched_stands topo tr (Stop host call byte) reaction number p seat old new given found named stands moves =
     stopped topo tr seat old new number reaction host call byte stands (same_bytes host seat.name named) moves
     (said (stop_armed topo (seat_named (seats_of topo) host) call byte) reaction (stop_says topo (seat_named (seats_of topo) host) call byte) given)
-touched_stands topo tr (Halt host call byte) reaction number p seat old new given plain found named stands moves =
-    halted topo tr seat old new number reaction host call byte stands moves
+touched_stands topo tr (Halt host call byte) reaction number p seat old new given found named stands moves =
+    halted topo tr seat old new number reaction host call byte stands (same_bytes host seat.name named) moves
     (said (halt_armed (seat_named (seats_of topo) host) call byte) reaction (halt_says (seat_named (seats_of topo) host) call byte) given)
-touched_stands topo tr (Restart node) reaction number p seat old new given plain found named stands moves =
+touched_stands topo tr (Restart node) reaction number p seat old new given found named stands moves =
     let same : node ≡ seat.name = cc in
     let this : seat_named (seats_of topo) node ≡ Some seat = ap (λ n. seat_named (seats_of topo) n) same ∙ found in
-    anew topo tr seat old new number reaction node stands (same_bytes node seat.name named) moves
-    (said (restarted topo tr (seat_named (seats_of topo) node) (router_named topo.routers node)) reaction
-    (restart_says topo tr (seat_named (seats_of topo) node) (router_named topo.routers node)
-    (λ s e. let is : Some s ≡ Some seat = sym e ∙ this in let one : s ≡ seat = cc in subst (λ (x : Seat). is_guarded topo.parts x.name ≡ false) (sym one) plain)) given)
-touched_stands topo tr (Tick ticks) reaction number p seat old new given plain found named stands moves = absurd cc
-touched_stands topo tr (Inject to bytes) reaction number p seat old new given plain found named stands moves = absurd cc
-touched_stands topo tr (Cut link) reaction number p seat old new given plain found named stands moves = absurd cc
-touched_stands topo tr (Mend link) reaction number p seat old new given plain found named stands moves = absurd cc
-touched_stands topo tr (Publish bytes) reaction number p seat old new given plain found named stands moves = absurd cc
+    let says : ◌≡◌ {A = Result Reaction StepFault} (Ok reaction) (Ok (back_up (standing topo tr seat))) =
+    sym given ∙ ap (λ (s : Option Seat). restarted topo tr s (router_named topo.routers node)) this in
+    anew topo tr seat old new number reaction node stands (same_bytes node seat.name named) moves cc
+touched_stands topo tr (Tick ticks) reaction number p seat old new given found named stands moves = absurd cc
+touched_stands topo tr (Inject to bytes) reaction number p seat old new given found named stands moves = absurd cc
+touched_stands topo tr (Cut link) reaction number p seat old new given found named stands moves = absurd cc
+touched_stands topo tr (Mend link) reaction number p seat old new given found named stands moves = absurd cc
+touched_stands topo tr (Publish bytes) reaction number p seat old new given found named stands moves = absurd cc
 
 -- ---- the whole
 
@@ -191,7 +188,7 @@ seat_found topo p seat sound there =
 
 -- the hosts stand for the longer trace
 pub hosts_after : (topo : Topology) (tr : List Entry) (old new : List HostState) (input : Input) (reaction : Reaction) (number : ℕ) → IsSound topo → outcome_of topo tr input ≡ Ok reaction
-    → HostsStand topo tr old → MovesAt HostState (host_touched topo (flights_of tr) input) (HostMoves input reaction) old new
+    → HostsStand topo tr old → MovesAt HostState (host_touched topo (flights_of tr) input) (HostMoves (now_of tr) input reaction) old new
     → HostsStand topo (after_step tr input (numbered number reaction)) new
 hosts_after topo tr old new input reaction number sound given stand moved = record {
   count = moved.count ∙ stand.count;
@@ -200,11 +197,11 @@ hosts_after topo tr old new input reaction number sound given stand moved = reco
   at_place : (p : ℕ) (seat : Seat) (host : HostState) → slice_get (seats_of topo) p ≡ Some seat → slice_get new p ≡ Some host
       → (host_touched topo (flights_of tr) input ≡ Some p) ⊎ (host_touched topo (flights_of tr) input ≡ Some p → ⊥) → HostStands topo (after_step tr input (numbered number reaction)) seat host
   at_place p seat host there at (inl touched) =
-      let before = moved_from HostState (host_touched topo (flights_of tr) input) (HostMoves input reaction) old new p host moved at in
+      let before = moved_from HostState (host_touched topo (flights_of tr) input) (HostMoves (now_of tr) input reaction) old new p host moved at in
       let stands = stand.each p seat before.0 there before.1 in
-      touched_stands topo tr input reaction number p seat before.0 host given stands.plain (seat_found topo p seat sound there)
+      touched_stands topo tr input reaction number p seat before.0 host given (seat_found topo p seat sound there)
       (touched_name topo (flights_of tr) input p seat touched there) stands (moved.here p before.0 host touched before.1 at)
   at_place p seat host there at (inr untouched) =
-      let before = moved_from HostState (host_touched topo (flights_of tr) input) (HostMoves input reaction) old new p host moved at in
+      let before = moved_from HostState (host_touched topo (flights_of tr) input) (HostMoves (now_of tr) input reaction) old new p host moved at in
       untouched_stands topo tr input reaction number p seat host sound given there untouched
       (subst (λ (h : HostState). HostStands topo tr seat h) (before.2 untouched) (stand.each p seat before.0 there before.1))

@@ -15,8 +15,8 @@ use Rattle.aip_rules.specs.Nodes.{links_of, seats_of, router_named}
 use Rattle.aip_rules.specs.Reaction.{numbered, in_put}
 use Rattle.aip_rules.specs.Step.{has_key}
 use Rattle.aip_host.specs.HostState.{HostState, key_in}
-use Rattle.aip_host.specs.After.{Follows, IsRestarted, stopped_in}
-use Rattle.aip_host.specs.StandsFor.{DiskSpends}
+use Rattle.aip_host.specs.After.{Follows, IsRestarted, halted_in, stopped_in}
+use Rattle.aip_host.specs.StandsFor.{DisksServe}
 use Rattle.aip_rules.specs.declared.Arming.{Arming}
 use Rattle.aip_core.specs.declared.reactions.NoReaction.{NoReaction}
 use Rattle.aip_core.specs.declared.reactions.NoReaction.TheVariants as no
@@ -63,28 +63,33 @@ host_named_by flights (Publish bytes) = None
 abbrev pub host_touched : Topology → List Flight → Input → Option ℕ
 host_touched topo flights input = option_and_then (λ name. seat_place (seats_of topo) name) (host_named_by flights input)
 
--- a host goes on with a reaction, and its leaves are spent on its disk
-pub record GoesOn (reaction : Reaction) (old new : HostState) : Type 0 where
-  pub follows : Follows old reaction new
-  pub disk : DiskSpends new.key
+-- a host goes on with a reaction at a time, and its disks serve
+pub record GoesOn (now : ℕ) (reaction : Reaction) (old new : HostState) : Type 0 where
+  pub follows : Follows now old reaction new
+  pub disks : DisksServe new
 
--- a host with a key has a stop armed, and its leaves are spent on its disk
+-- a host with a key has a stop armed, and its disks serve
 pub record IsStopped (arming : Arming) (old new : HostState) : Type 0 where
   pub keyed : has_key (key_in old.key) ≡ true
   pub stopped : new ≡ record old { key = stopped_in old.key arming }
-  pub disk : DiskSpends new.key
+  pub disks : DisksServe new
 
--- a host started anew, and its leaves are spent on its disk
+-- the guard of a host, if it has one, has a halt armed, and its disks serve
+pub record IsHalted (arming : Arming) (old new : HostState) : Type 0 where
+  pub halted : new ≡ record old { guard = halted_in old.guard arming }
+  pub disks : DisksServe new
+
+-- a host started anew, and its disks serve
 pub record IsAnew (old new : HostState) : Type 0 where
   pub anew : IsRestarted old new
-  pub disk : DiskSpends new.key
+  pub disks : DisksServe new
 
--- how the host that an input names goes on with a reaction
-abbrev pub HostMoves : Input → Reaction → HostState → HostState → Type 0
-HostMoves (Stop host call byte) reaction old new = IsStopped (record { call = call; byte = byte }) old new
-HostMoves (Halt host call byte) reaction old new = new ≡ old
-HostMoves (Restart node) reaction old new = IsAnew old new
-HostMoves _ reaction old new = GoesOn reaction old new
+-- how the host that an input names goes on with a reaction at a time
+abbrev pub HostMoves : ℕ → Input → Reaction → HostState → HostState → Type 0
+HostMoves now (Stop host call byte) reaction old new = IsStopped (record { call = call; byte = byte }) old new
+HostMoves now (Halt host call byte) reaction old new = IsHalted (record { call = call; byte = byte }) old new
+HostMoves now (Restart node) reaction old new = IsAnew old new
+HostMoves now _ reaction old new = GoesOn now reaction old new
 
 -- ---- routers
 
@@ -149,7 +154,7 @@ pub record Moved (kept : Kept) (input : Input) (reaction : Reaction) (next : Kep
   pub flights : next.flights ≡ kept.flights
   pub ticks : next.ticks ≡ kept.ticks
   pub inputs : next.inputs ≡ kept.inputs
-  pub hosts : MovesAt HostState (host_touched kept.topo kept.flights input) (HostMoves input reaction) kept.hosts next.hosts
+  pub hosts : MovesAt HostState (host_touched kept.topo kept.flights input) (HostMoves kept.ticks input reaction) kept.hosts next.hosts
   pub routers : MovesAt RouterState (router_touched kept.topo kept.flights input) (RouterMoves kept (router_touched kept.topo kept.flights input) input) kept.routers next.routers
 
 -- the links with link l up or cut

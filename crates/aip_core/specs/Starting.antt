@@ -1,7 +1,7 @@
 -- The hosts of a topology before any input.
-use Rattle.std.specs.Prelude.{◌≡◌, ℕ, ◌+◌, List, [], ◌∷◌, length, drop, slice_get, replicate, Option, Some}
-use Rattle.lms_core.specs.Tree.{Key as PrivateKey}
+use Rattle.std.specs.Prelude.{◌≡◌, ℕ, ◌+◌, List, [], ◌∷◌, length, drop, slice_get, replicate, Some}
 use Rattle.aip_event.specs.declared.input.Target.TheVariants as target
+use Rattle.aip_topo.specs.declared.topology.HostPart.{HostPart}
 use Rattle.aip_topo.specs.declared.topology.Part.{Part}
 use Rattle.aip_topo.specs.declared.topology.Part.TheVariants.{Host, Link}
 use Rattle.aip_topo.specs.declared.topology.Router.{Router}
@@ -11,32 +11,32 @@ use Rattle.aip_rules.specs.declared.Seat.{Seat}
 use Rattle.aip_rules.specs.Nodes.{links_of, made_key, name_at, seats_of}
 use Rattle.aip_host.specs.After.{IsNew}
 use Rattle.aip_host.specs.HostState.{HostState}
-use Rattle.aip_host.specs.StandsFor.{DiskSpends}
+use Rattle.aip_host.specs.StandsFor.{DisksServe}
 use Rattle.aip_core.specs.Kept.{Kept}
 use Rattle.aip_core.specs.RouterMachine.{router_at_start}
 
--- the private keys of the hosts of these lines, in their order
-abbrev pub host_keys : List Part → List (Option PrivateKey)
-host_keys [] = []
-host_keys (Host host ∷ parts) = made_key host.key ∷ host_keys parts
-host_keys (Link link ∷ parts) = host_keys parts
+-- the hosts on these lines, in their order
+abbrev pub hosts_on : List Part → List HostPart
+hosts_on [] = []
+hosts_on (Host host ∷ parts) = host ∷ hosts_on parts
+hosts_on (Link link ∷ parts) = hosts_on parts
 
--- a host is new at its seat, with this key, and no leaf is spent on its disk
-pub record IsNewHost (settings : Settings) (routers : List Router) (seat : Seat) (key : Option PrivateKey) (host : HostState) : Type 0 where
-  pub begun : IsNew seat (target.Port (name_at routers seat.router) seat.port) settings key host
-  pub disk : DiskSpends host.key
+-- a host is new at its seat, with the key of its line and with a guard where that has one, and its disks serve
+pub record IsNewHost (settings : Settings) (routers : List Router) (seat : Seat) (line : HostPart) (host : HostState) : Type 0 where
+  pub begun : IsNew seat (target.Port (name_at routers seat.router) seat.port) settings (made_key line.key) line.guarded host
+  pub disks : DisksServe host
 
--- the host at each place is new at the seat there, with the key there
-abbrev pub AreNewHosts : Settings → List Router → List Seat → List (Option PrivateKey) → List HostState → Type 0
-AreNewHosts settings routers seats keys hosts =
-    (place : ℕ) (seat : Seat) (key : Option PrivateKey) (host : HostState) → slice_get seats place ≡ Some seat → slice_get keys place ≡ Some key
-    → slice_get hosts place ≡ Some host → IsNewHost settings routers seat key host
+-- the host at each place is new at the seat there, by the line there
+abbrev pub AreNewHosts : Settings → List Router → List Seat → List HostPart → List HostState → Type 0
+AreNewHosts settings routers seats lines hosts =
+    (place : ℕ) (seat : Seat) (line : HostPart) (host : HostState) → slice_get seats place ≡ Some seat → slice_get lines place ≡ Some line
+    → slice_get hosts place ≡ Some host → IsNewHost settings routers seat line host
 
--- the hosts so far are new, and those that are left are the hosts of these lines
-pub record AreBegun (settings : Settings) (routers : List Router) (seats : List Seat) (keys : List (Option PrivateKey)) (parts : List Part) (hosts : List HostState) : Type 0 where
-  pub each : AreNewHosts settings routers seats keys hosts
-  pub left : drop (length hosts) keys ≡ host_keys parts
-  pub room : length hosts + length (host_keys parts) ≡ length seats
+-- the hosts so far are new, and those that are left are the hosts on these lines
+pub record AreBegun (settings : Settings) (routers : List Router) (seats : List Seat) (lines : List HostPart) (parts : List Part) (hosts : List HostState) : Type 0 where
+  pub each : AreNewHosts settings routers seats lines hosts
+  pub left : drop (length hosts) lines ≡ hosts_on parts
+  pub room : length hosts + length (hosts_on parts) ≡ length seats
 
 -- what is kept before any input: all links as they are given, no flights, new hosts, and routers that accepted nothing
 pub record IsKeptAtStart (topo : Topology) (kept : Kept) : Type 0 where
@@ -44,7 +44,7 @@ pub record IsKeptAtStart (topo : Topology) (kept : Kept) : Type 0 where
   pub links : kept.links ≡ links_of topo
   pub flights : kept.flights ≡ []
   pub count : length kept.hosts ≡ length (seats_of topo)
-  pub hosts : AreNewHosts topo.settings topo.routers (seats_of topo) (host_keys topo.parts) kept.hosts
+  pub hosts : AreNewHosts topo.settings topo.routers (seats_of topo) (hosts_on topo.parts) kept.hosts
   pub routers : kept.routers ≡ replicate (length topo.routers) (router_at_start topo.settings)
   pub ticks : kept.ticks ≡ 0
   pub inputs : kept.inputs ≡ 0

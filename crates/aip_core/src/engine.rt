@@ -11,7 +11,6 @@ ghost use Rattle.aip_rules.specs.State.{now_of, flight_count, ticks_of};
 ghost use Rattle.aip_rules.specs.Routes.{domains_of_routers};
 ghost use Rattle.aip_rules.specs.Reaction.{numbered, in_put, put_event};
 ghost use Rattle.aip_rules.specs.Step.{injected, is_built, ticked};
-ghost use Rattle.aip_rules.specs.Texts.{is_built_topology};
 ghost use Rattle.aip_rules.specs.Laws.{PutAtMostOne};
 ghost use Rattle.aip_core.specs.Machine.{AreSeated, at_host_or, host_of, host_outcome, is_at_host, kept_outcome, kept_relinked, unless_hindered};
 ghost use Rattle.aip_core.specs.Moves.{Does, GoesToPort, LinkIsThere, Moved, IsKeptStep, host_named_by, host_touched, router_touched, kept_after, links_with};
@@ -163,8 +162,7 @@ impl Core {
     /// The core of a topology before any input, all links up. It stands for the empty trace. The only error is want of
     /// memory.
     pub fn new(alloc: Global, topology: Topology) -> Result<Core, AllocError>
-        requires sound { IsSound topology }
-        requires built { IsTrue (is_built_topology topology) }
+        requires { IsSound topology }
         ensures { IfOk result (λ core. StandsFor topology [] core) }
     {
         Core::start(alloc, topology)

@@ -1,13 +1,13 @@
 //! What comes of an input at the host that it lets act, stops, halts or restarts.
 
-ghost use Rattle.std.specs.Prelude.{◌≡◌, ◌<◌, ℕ, length, map, slice_get, option_copied, IsTrue, Ok, Some};
+ghost use Rattle.std.specs.Prelude.{◌≡◌, ◌<◌, ◌^◌, length, map, slice_get, option_copied, IsTrue, Ok, Some};
 ghost use Rattle.aip_frame.specs.Frame.{frame_of};
 ghost use Rattle.aip_host.specs.HostState.{HostState, standing_of};
 ghost use Rattle.aip_rules.specs.Host.{back_up};
 ghost use Rattle.aip_rules.specs.State.{frame_in};
 ghost use Rattle.aip_rules.specs.Step.{can_be_put};
 ghost use Rattle.aip_core.specs.Machine.{kept_sent, kept_raw, kept_heard, kept_shut_named, kept_stop, kept_halt, host_outcome, is_at_host};
-ghost use Rattle.aip_core.specs.Moves.{Does, GoesOn, HostMoves, IsAnew, IsStopped, MovesAt};
+ghost use Rattle.aip_core.specs.Moves.{Does, GoesOn, HostMoves, IsAnew, IsHalted, IsStopped, MovesAt};
 
 use crate::directory::Directory;
 use crate::flights::Flights;
@@ -33,11 +33,13 @@ pub fn can_be_put(count: usize) -> bool
 fn send(
     alloc: Global,
     host: &mut Host,
+    now: u64,
     to: Option<Address>,
     packet: u64,
     body: &[u8],
 ) -> Result<Reaction, NoReaction>
-    ensures does { (now : ℕ) → Does (kept_sent now host.old to packet body.now) GoesOn host.old result host.new }
+    requires soon { now < 2 ^ 48 }
+    ensures does { Does (kept_sent now host.old to packet body.now) (GoesOn now) host.old result host.new }
     ensures seat { host.new.seat ≡ host.old.seat }
 {
     let Some(to) = to else {
@@ -46,18 +48,19 @@ fn send(
     if packet >= 1 << 32 || body.len() > MOST_BODY {
         return Err(NoReaction::Fault(StepFault::Range));
     }
-    Ok(host.send(alloc, to, packet as u32, body)?)
+    Ok(host.send(alloc, now, to, packet as u32, body)?)
 }
 
 // The host puts bytes as they are.
-fn put(alloc: Global, host: &mut Host, bytes: &[u8]) -> Result<Reaction, NoReaction>
-    ensures does { (now : ℕ) → Does (kept_raw now host.old bytes.now) GoesOn host.old result host.new }
+fn put(alloc: Global, host: &mut Host, now: u64, bytes: &[u8]) -> Result<Reaction, NoReaction>
+    requires soon { now < 2 ^ 48 }
+    ensures does { Does (kept_raw now host.old bytes.now) (GoesOn now) host.old result host.new }
     ensures seat { host.new.seat ≡ host.old.seat }
 {
     if !can_be_put(bytes.len()) {
         return Err(NoReaction::Fault(StepFault::Range));
     }
-    Ok(host.raw(alloc, bytes)?)
+    Ok(host.raw(alloc, now, bytes)?)
 }
 
 // A flight arrives at the host, if it was put.
@@ -67,7 +70,8 @@ fn hear(
     now: u64,
     flight: Option<&Flight>,
 ) -> Result<Reaction, NoReaction>
-    ensures does { Does (kept_heard now host.old (option_copied flight.entry)) GoesOn host.old result host.new }
+    requires soon { now < 2 ^ 48 }
+    ensures does { Does (kept_heard now host.old (option_copied flight.entry)) (GoesOn now) host.old result host.new }
     ensures seat { host.new.seat ≡ host.old.seat }
 {
     match flight {
@@ -84,7 +88,8 @@ fn silence(
     bytes: &[u8],
     ttl: u64,
 ) -> Result<Reaction, NoReaction>
-    ensures does { Does (kept_shut_named now host.old (frame_of bytes.now) ttl) GoesOn host.old result host.new }
+    requires soon { now < 2 ^ 48 }
+    ensures does { Does (kept_shut_named now host.old (frame_of bytes.now) ttl) (GoesOn now) host.old result host.new }
     ensures seat { host.new.seat ≡ host.old.seat }
 {
     if !is_frame(bytes) {
@@ -107,7 +112,8 @@ fn shut(
     flight: Option<&Flight>,
     ttl: u64,
 ) -> Result<Reaction, NoReaction>
-    ensures does { Does (kept_shut_named now host.old (frame_in (option_copied flight.entry)) ttl) GoesOn host.old result host.new }
+    requires soon { now < 2 ^ 48 }
+    ensures does { Does (kept_shut_named now host.old (frame_in (option_copied flight.entry)) ttl) (GoesOn now) host.old result host.new }
     ensures seat { host.new.seat ≡ host.old.seat }
 {
     match flight {
@@ -131,9 +137,9 @@ fn stop(alloc: Global, host: &mut Host, call: u64, byte: u64) -> Result<Reaction
     Ok(Reaction::nothing(alloc))
 }
 
-// A halt of the host's filter is armed.
+// A halt of the host's guard is armed, if it has one.
 fn halt(alloc: Global, host: &mut Host, call: u64, byte: u64) -> Result<Reaction, NoReaction>
-    ensures does { Does (kept_halt call byte) (λ reaction old new. new ≡ old) host.old result host.new }
+    ensures does { Does (kept_halt call byte) (λ reaction. IsHalted (record { call = call; byte = byte })) host.old result host.new }
     ensures seat { host.new.seat ≡ host.old.seat }
 {
     if call == 0 || call > 4 || byte >= 256 {
@@ -144,11 +150,12 @@ fn halt(alloc: Global, host: &mut Host, call: u64, byte: u64) -> Result<Reaction
 }
 
 // The host starts anew.
-fn restart(alloc: Global, host: &mut Host) -> Result<Reaction, NoReaction>
-    ensures does { (now : ℕ) → Does (Ok (back_up (standing_of host.old now))) (λ reaction. IsAnew) host.old result host.new }
+fn restart(alloc: Global, host: &mut Host, now: u64) -> Result<Reaction, NoReaction>
+    requires soon { now < 2 ^ 48 }
+    ensures does { Does (Ok (back_up (standing_of host.old now))) (λ reaction. IsAnew) host.old result host.new }
     ensures seat { host.new.seat ≡ host.old.seat }
 {
-    Ok(host.restart(alloc)?)
+    Ok(host.restart(alloc, now)?)
 }
 
 // What comes of an input at the host that it names.
@@ -160,8 +167,9 @@ fn act(
     host: &mut Host,
     input: &Input,
 ) -> Result<Reaction, NoReaction>
-    requires { IsTrue (is_at_host input.now) }
-    ensures does { Does (host_outcome directory.now flights.now now host.old input.now) (HostMoves input.now) host.old result host.new }
+    requires acts { IsTrue (is_at_host input.now) }
+    requires soon { now < 2 ^ 48 }
+    ensures does { Does (host_outcome directory.now flights.now now host.old input.now) (HostMoves now input.now) host.old result host.new }
     ensures seat { host.new.seat ≡ host.old.seat }
 {
     match input {
@@ -173,18 +181,19 @@ fn act(
         } => send(
             alloc,
             host,
+            now,
             directory.address_named(node),
             *packet,
             body.as_slice(),
         ),
-        Input::Raw { host: _, bytes } => put(alloc, host, bytes.as_slice()),
+        Input::Raw { host: _, bytes } => put(alloc, host, now, bytes.as_slice()),
         Input::Deliver { flight } => hear(alloc, host, now, flights.find(*flight as usize)),
         Input::Shutoff {
             host: _,
             flight,
             ttl,
         } => shut(alloc, host, now, flights.find(*flight as usize), *ttl),
-        Input::Restart { node: _ } => restart(alloc, host),
+        Input::Restart { node: _ } => restart(alloc, host, now),
         Input::Stop {
             host: _,
             call,
@@ -211,11 +220,12 @@ pub fn act_at(
     input: &Input,
 ) -> Result<Reaction, NoReaction>
     requires acts { IsTrue (is_at_host input.now) }
+    requires soon { now < 2 ^ 48 }
     requires there { place < length hosts.old.items }
     ensures seats { map (λ host. host.seat) hosts.new.items ≡ map (λ host. host.seat) hosts.old.items }
     ensures acts { (host : HostState) → slice_get hosts.old.items place ≡ Some host
         → Does (host_outcome directory.now flights.now now host input.now)
-        (λ reaction old new. MovesAt HostState (Some place) (HostMoves input.now reaction) old new) hosts.old.items result hosts.new.items }
+        (λ reaction old new. MovesAt HostState (Some place) (HostMoves now input.now reaction) old new) hosts.old.items result hosts.new.items }
 {
     act(
         alloc,

@@ -1,17 +1,17 @@
 //! The hosts of a topology before any input.
 
-ghost use Rattle.std.specs.Prelude.{◌≡◌, ◌<◌, ◌≤◌, ◌+◌, ◌∷◌, [], ℕ, List, Option, length, All, IfOk, OnOk};
-ghost use Rattle.lms_core.specs.Tree.{Key as PrivateKey};
+ghost use Rattle.std.specs.Prelude.{◌≡◌, ◌<◌, ◌≤◌, ◌+◌, ◌∷◌, [], ℕ, List, length, All, IfOk, OnOk};
 ghost use Rattle.aip_event.specs.declared.input.Target.TheVariants as target;
+ghost use Rattle.aip_topo.specs.declared.topology.HostPart.{HostPart as HostLine};
 ghost use Rattle.aip_topo.specs.declared.topology.Part.{Part as Line};
 ghost use Rattle.aip_rules.specs.Nodes.{made_key, name_at};
 ghost use Rattle.aip_core.specs.Directory.{SitsBelow};
-ghost use Rattle.aip_core.specs.Starting.{AreBegun, AreNewHosts, IsNewHost, host_keys};
+ghost use Rattle.aip_core.specs.Starting.{AreBegun, AreNewHosts, IsNewHost, hosts_on};
 
 use aip_event::Target;
 use aip_host::Host;
 use aip_rules::Seat;
-use aip_topo::{Key, Part, Router, Settings};
+use aip_topo::{HostPart, Key, Part, Router, Settings};
 use lms_core::Tree;
 use std::alloc::{AllocError, Global};
 
@@ -36,20 +36,29 @@ fn private(alloc: Global, key: &Key) -> Result<Option<Tree>, AllocError>
     }
 }
 
-// A host at its seat that has done nothing yet.
+// The host of a line at its seat that has done nothing yet.
 fn new_host(
     alloc: Global,
     settings: &Settings,
     routers: &[Router],
     seat: Seat,
-    key: &Key,
+    line: &HostPart,
 ) -> Result<Host, AllocError>
     requires log { 1 ≤ settings.now.log }
+    requires some { 1 ≤ settings.now.filter }
+    requires few { settings.now.filter ≤ 256 }
     requires there { seat.router < length routers.now }
-    ensures { IfOk result (IsNewHost settings.now routers.now seat (made_key key.now)) }
+    ensures { IfOk result (IsNewHost settings.now routers.now seat line.now) }
 {
-    let key = private(alloc, key)?;
-    Host::new(alloc, seat, towards(routers, &seat), settings, key)
+    let key = private(alloc, &line.key)?;
+    Host::new(
+        alloc,
+        seat,
+        towards(routers, &seat),
+        settings,
+        key,
+        line.guarded,
+    )
 }
 
 // Adds the host of a line, if it is one.
@@ -62,16 +71,18 @@ fn add_host(
     hosts: &mut Vec<Host>,
 ) -> Result<(), AllocError>
     requires log { 1 ≤ settings.now.log }
+    requires some { 1 ≤ settings.now.filter }
+    requires few { settings.now.filter ≤ 256 }
     requires seated { All (SitsBelow (length routers.now)) seats.now }
-    requires room { length hosts.old.items + length (host_keys (part.now ∷ [])) ≤ length seats.now }
-    ensures { OnOk result ((keys : List (Option PrivateKey)) (rest : List Line) →
-        AreBegun settings.now routers.now seats.now keys (part.now ∷ rest) hosts.old.items
-        → AreBegun settings.now routers.now seats.now keys rest hosts.new.items) }
+    requires room { length hosts.old.items + length (hosts_on (part.now ∷ [])) ≤ length seats.now }
+    ensures { OnOk result ((lines : List HostLine) (rest : List Line) →
+        AreBegun settings.now routers.now seats.now lines (part.now ∷ rest) hosts.old.items
+        → AreBegun settings.now routers.now seats.now lines rest hosts.new.items) }
 {
     match part {
         Part::Host(host) => {
             let seat = seats[hosts.len()];
-            hosts.push(new_host(alloc, settings, routers, seat, &host.key)?)?;
+            hosts.push(new_host(alloc, settings, routers, seat, host)?)?;
             Ok(())
         }
         Part::Link(_) => Ok(()),
@@ -87,10 +98,12 @@ pub fn hosts_of(
     parts: &[Part],
 ) -> Result<Vec<Host>, AllocError>
     requires log { 1 ≤ settings.now.log }
+    requires some { 1 ≤ settings.now.filter }
+    requires few { settings.now.filter ≤ 256 }
     requires seated { All (SitsBelow (length routers.now)) seats.now }
-    requires each { length seats.now ≡ length (host_keys parts.now) }
+    requires each { length seats.now ≡ length (hosts_on parts.now) }
     ensures count { IfOk result (λ hosts. length hosts.items ≡ length seats.now) }
-    ensures new { IfOk result (λ hosts. AreNewHosts settings.now routers.now seats.now (host_keys parts.now) hosts.items) }
+    ensures new { IfOk result (λ hosts. AreNewHosts settings.now routers.now seats.now (hosts_on parts.now) hosts.items) }
 {
     let mut hosts = Vec::new(alloc);
     'parts: for part in parts {

@@ -1,12 +1,9 @@
 -- What a host keeps stands for the trace: it reacts as the rules do on the trace, and stands for the longer trace then.
-use Rattle.std.proofs.Common.{◌≡◌, ℕ, Bool, true, false, if◌then◌else◌, List, [], ◌∷◌, ◌++◌, take, refl, sym, ◌∙◌, ap, subst, Option, Some, None}
+use Rattle.std.proofs.Common.{◌≡◌, ℕ, Bool, true, false, if◌then◌else◌, List, [], ◌∷◌, ◌++◌, take, refl, sym, ◌∙◌, ap, subst, Option, None}
 use Rattle.std.proofs.Math.Seq.{take-nil}
-use Rattle.std.specs.Str.{bytes_eq}
 use Rattle.aip_event.specs.declared.event.Event.{Event}
 use Rattle.aip_event.specs.declared.event.Reason.TheVariants as reason
 use Rattle.aip_event.specs.declared.input.Input.{Input}
-use Rattle.aip_event.specs.declared.input.Input.TheVariants.{Restart, Stop, Halt}
-use Rattle.aip_event.specs.declared.input.Target.{Target}
 use Rattle.aip_event.specs.declared.input.Target.TheVariants as target
 use Rattle.aip_frame.specs.declared.frame.Frame.{Frame}
 use Rattle.aip_frame.specs.Frame.{frame_of}
@@ -14,39 +11,47 @@ use Rattle.aip_topo.specs.declared.topology.Topology.{Topology}
 use Rattle.lms_core.specs.Tree.{Key}
 use Rattle.sent_log.specs.Log as log
 use Rattle.sent_log.specs.declared.log.Noted.{Noted}
-use Rattle.shutoff_filter.specs.Entries.{in_force}
+use Rattle.shutoff_filter.specs.declared.entries.Entry.{Entry as ShutOff}
+use Rattle.shutoff_filter.specs.Entries.{SameInForce, in_force, is_withheld}
+use Rattle.shutoff_filter.specs.InForce.{same_in_force}
 use Rattle.aip_rules.specs.declared.Arming.{Arming}
 use Rattle.aip_rules.specs.declared.Entry.{Entry}
-use Rattle.aip_rules.specs.declared.Entry.TheVariants.{Taken, Happened}
+use Rattle.aip_rules.specs.declared.Entry.TheVariants.{Taken}
 use Rattle.aip_rules.specs.declared.Reaction.{Reaction}
 use Rattle.aip_rules.specs.declared.Seat.{Seat}
-use Rattle.aip_rules.specs.State.{now_of, is_down, is_restart_of, armed_stop, armed_halt}
+use Rattle.aip_rules.specs.State.{now_of, is_down, is_restart_of, is_halt_of, armed_stop, armed_halt}
 use Rattle.aip_rules.specs.Nodes.{name_at, key_named, is_guarded}
 use Rattle.aip_rules.specs.Reaction.{nothing, dropped, numbered, put_event}
-use Rattle.aip_rules.specs.Standing.{Standing, standing, lets_act, frames_put, told_to, next_leaf}
-use Rattle.aip_rules.specs.Host.{handed_down, put_by, signed, signing, shutoff_frame, shut_by, taken_at_host, at_host, back_up}
+use Rattle.aip_rules.specs.Standing.{Standing, standing, lets_act, frames_put, next_leaf, told_to}
+use Rattle.aip_rules.specs.Host.{handed_down, put_by, shut_by, taken_at_host, at_host, back_up}
 use Rattle.aip_rules.specs.Step.{with_events, after_step}
 use Rattle.aip_host.specs.Signing.{KeyState, with_stop}
-use Rattle.aip_host.specs.HostState.{HostState, key_in, next_in, stop_in, down_in, standing_of}
-use Rattle.aip_host.specs.After.{Follows, IsNew, IsRestarted, stopped_in, next_past, stop_past, down_past, logged}
-use Rattle.aip_host.specs.StandsFor.{StandsFor, DiskSpends}
-use Rattle.aip_host.proofs.Grown.{next_with, stop_with, down_with, up_before, next_put, stop_put, down_put, told_put, noted_put, frames_with_put, logged_stands, logged_room, no_restart, no_stop}
+use Rattle.aip_host.specs.HostState.{HostState, key_in, next_in, stop_in, halt_in, shut_in, down_of, standing_of}
+use Rattle.aip_host.specs.After.{Follows, IsNew, next_past, stop_past, halt_past, down_past, told_past, logged}
+use Rattle.aip_host.specs.StandsFor.{StandsFor, DisksServe}
+use Rattle.aip_host.proofs.Grown.{next_with, stop_with, halt_with, down_with, told_with, now_with, told_alike, up_before, next_put, stop_put, halt_put, down_put, told_put, noted_put, frames_with_put, logged_stands, logged_room, no_restart, no_stop, no_halt, no_ticks}
 
 -- ---- a host reacts as the rules do on the trace
 
+-- the shut-offs in force are those that the trace told
+same_shut : (topo : Topology) (tr : List Entry) (at : Seat) (kept : HostState) → StandsFor topo tr at kept → in_force (now_of tr) (shut_in kept.guard) ≡ in_force (now_of tr) (told_to tr at.name)
+same_shut topo tr at kept stands = sym (same_in_force (now_of tr) (told_to tr at.name) (shut_in kept.guard) stands.told)
+
 -- what stands for a host that is up, by what it keeps, is what stands for it after the trace
-pub same_standing : (topo : Topology) (tr : List Entry) (at : Seat) (kept : HostState) → StandsFor topo tr at kept → down_in kept.key ≡ false
+pub same_standing : (topo : Topology) (tr : List Entry) (at : Seat) (kept : HostState) → StandsFor topo tr at kept → down_of kept ≡ false
     → standing_of kept (now_of tr) ≡ standing topo tr at
 same_standing topo tr at kept stands up =
     let stop = stands.stop up in
-    rw (stands.seat, stands.towards, stands.key, stands.plain, stands.room, stands.down, stands.log, stands.next, stop, stands.untold) refl
+    let halt = stands.halt up in
+    let shut = same_shut topo tr at kept stands in
+    rw (stands.seat, stands.towards, stands.key, halt, stands.guarded, stands.room, stands.down, stands.log, stands.next, stop, shut) refl
 
 -- a reaction of a host that is up; one that is down drops what is asked of it
 abbrev unless_down : (Standing → Reaction) → Standing → Reaction
 unless_down react s = if s.down then dropped s.seat.name reason.Down else react s
 
 module _ (topo : Topology) (tr : List Entry) (at : Seat) (kept : HostState) (stands : StandsFor topo tr at kept) where
-  same_down : (react : Standing → Reaction) → down_in kept.key ≡ true → unless_down react (standing_of kept (now_of tr)) ≡ unless_down react (standing topo tr at)
+  same_down : (react : Standing → Reaction) → down_of kept ≡ true → unless_down react (standing_of kept (now_of tr)) ≡ unless_down react (standing topo tr at)
   same_down react down =
       let fallen : is_down tr at.name ≡ true = sym stands.down ∙ down in
       ap (λ d. if d then dropped kept.seat.name reason.Down else react (standing_of kept (now_of tr))) down
@@ -55,9 +60,9 @@ module _ (topo : Topology) (tr : List Entry) (at : Seat) (kept : HostState) (sta
 
   -- whether the host is down or up, its reaction is that of the rules
   same_reaction : (react : Standing → Reaction) → unless_down react (standing_of kept (now_of tr)) ≡ unless_down react (standing topo tr at)
-  same_reaction react = by_case (down_in kept.key) refl
+  same_reaction react = by_case (down_of kept) refl
     where
-      by_case : (down : Bool) → down_in kept.key ≡ down → unless_down react (standing_of kept (now_of tr)) ≡ unless_down react (standing topo tr at)
+      by_case : (down : Bool) → down_of kept ≡ down → unless_down react (standing_of kept (now_of tr)) ≡ unless_down react (standing topo tr at)
       by_case true is = same_down react is
       by_case false is = ap (unless_down react) (same_standing topo tr at kept stands is)
 
@@ -75,7 +80,9 @@ module _ (topo : Topology) (tr : List Entry) (at : Seat) (kept : HostState) (sta
 
   -- where it starts anew
   pub restarts_as : back_up (standing_of kept (now_of tr)) ≡ back_up (standing topo tr at)
-  restarts_as = rw stands.plain refl
+  restarts_as =
+      let shut = same_shut topo tr at kept stands in
+      rw (stands.guarded, stands.seat, shut) refl
 
 -- a plain host that starts anew says nothing
 pub says_nothing : (topo : Topology) (tr : List Entry) (at : Seat) → is_guarded topo.parts at.name ≡ false → back_up (standing topo tr at) ≡ nothing
@@ -84,22 +91,28 @@ says_nothing topo tr at plain = rw plain refl
 -- ---- at first
 
 -- a new host stands for the trace of no inputs
-pub starts : (topo : Topology) (at : Seat) (kept : HostState) → is_guarded topo.parts at.name ≡ false
-    → IsNew at (target.Port (name_at topo.routers at.router) at.port) topo.settings (key_named topo.parts at.name) kept → DiskSpends kept.key → StandsFor topo [] at kept
-starts topo at kept plain new disk = record {
+pub starts : (topo : Topology) (at : Seat) (kept : HostState)
+    → IsNew at (target.Port (name_at topo.routers at.router) at.port) topo.settings (key_named topo.parts at.name) (is_guarded topo.parts at.name) kept → DisksServe kept → StandsFor topo [] at kept
+starts topo at kept new disks = record {
   seat = new.place;
   towards = new.port;
   room = new.room;
   key = new.private;
-  plain = plain;
-  untold = refl;
+  guarded = new.guarded;
   down = new.up;
   log_room = ap (λ (l : log.Log). l.room) new.log;
   log = ap (λ (l : log.Log). l.frames) new.log ∙ sym (take-nil topo.settings.log);
   next = new.next;
   stop = λ _. new.stop;
-  disk = disk;
+  halt = λ _. new.halt ∙ sym (no_choice (is_guarded topo.parts at.name));
+  told = λ to time later. ap (is_withheld time to) (sym new.told);
+  untold = λ _. refl;
+  disks = disks;
 }
+  where
+    no_choice : (b : Bool) → ◌≡◌ {A = Option Arming} (if b then None else None) None
+    no_choice true = refl
+    no_choice false = refl
 
 -- ---- after a reaction of its own
 
@@ -108,7 +121,7 @@ log_frames : (room : ℕ) (kept : log.Log) (frames : List Noted) → kept.room �
 log_frames room kept frames same is = record { frames = is ∙ ap (λ r. take r frames) (sym same) }
 
 module _ (topo : Topology) (tr : List Entry) (kept after : HostState) (input : Input) (number : ℕ) (reaction : Reaction)
-    (stands : StandsFor topo tr kept.seat kept) (moved : Follows kept reaction after) (disk : DiskSpends after.key) (acting : lets_act tr input kept.seat.name ≡ true) where
+    (stands : StandsFor topo tr kept.seat kept) (moved : Follows (now_of tr) kept reaction after) (disks : DisksServe after) (acting : lets_act tr input kept.seat.name ≡ true) where
   abbrev name : List ℕ
   name = kept.seat.name
 
@@ -124,7 +137,7 @@ module _ (topo : Topology) (tr : List Entry) (kept after : HostState) (input : I
   same_fallen : is_down mid name ≡ is_down tr name
   same_fallen = ap (λ r. if r then false else is_down tr name) (no_restart tr input name acting)
 
-  now_down : down_in after.key ≡ down_past reaction.events name (is_down tr name)
+  now_down : down_of after ≡ down_past reaction.events name (is_down tr name)
   now_down = moved.down ∙ ap (down_past reaction.events name) stands.down
 
   all_down : is_down (with_events all mid) name ≡ down_past reaction.events name (is_down tr name)
@@ -135,7 +148,18 @@ module _ (topo : Topology) (tr : List Entry) (kept after : HostState) (input : I
       stop_with all mid name ∙ stop_put reaction.events number reaction.put name (armed_stop mid name)
       ∙ ap (stop_past reaction.events name) (no_stop tr input name (armed_stop tr name) acting)
 
-  was_up : down_in after.key ≡ false → down_in kept.key ≡ false
+  all_halt : armed_halt (with_events all mid) name ≡ halt_past reaction.events name (armed_halt tr name)
+  all_halt =
+      halt_with all mid name ∙ halt_put reaction.events number reaction.put name (armed_halt mid name)
+      ∙ ap (halt_past reaction.events name) (no_halt tr input name (armed_halt tr name) acting)
+
+  all_now : now_of (with_events all mid) ≡ now_of tr
+  all_now = now_with all mid ∙ no_ticks tr input name acting
+
+  all_told : told_to (with_events all mid) name ≡ told_past reaction.events name (told_to tr name)
+  all_told = told_with all mid name ∙ told_put reaction.events number reaction.put name (told_to mid name)
+
+  was_up : down_of after ≡ false → down_of kept ≡ false
   was_up up = stands.down ∙ up_before reaction.events name (is_down tr name) (sym now_down ∙ up)
 
   now_logged : log.StandsFor (noted_put reaction.put ++ frames_put tr name) (logged kept.log reaction.put)
@@ -143,6 +167,25 @@ module _ (topo : Topology) (tr : List Entry) (kept after : HostState) (input : I
 
   log_room : after.log.room ≡ topo.settings.log
   log_room = ap (λ (l : log.Log). l.room) moved.log ∙ logged_room reaction.put kept.log ∙ stands.log_room
+
+  -- a halt of a host with a guard is as the events leave it, and a plain host has none
+  now_halt : down_of kept ≡ false → halt_past reaction.events name (halt_in kept.guard) ≡ (if is_guarded topo.parts name then armed_halt (with_events all mid) name else None)
+  now_halt up = ap (halt_past reaction.events name) (stands.halt up) ∙ choice (is_guarded topo.parts name)
+    where
+      none : (events : List Event) → halt_past events name None ≡ None
+      none [] = refl
+      none (event ∷ events) = ap (halt_past events name) (same (is_halt_of event name)) ∙ none events
+        where
+          same : (b : Bool) → ◌≡◌ {A = Option Arming} (if b then None else None) None
+          same true = refl
+          same false = refl
+
+      choice : (b : Bool) → halt_past reaction.events name (if b then armed_halt tr name else None) ≡ (if b then armed_halt (with_events all mid) name else None)
+      choice true = sym all_halt
+      choice false = none reaction.events
+
+  now_told : SameInForce (now_of tr) (told_past reaction.events name (told_to tr name)) (shut_in after.guard)
+  now_told = λ to time later. told_alike (now_of tr) reaction.events name (told_to tr name) (shut_in kept.guard) stands.told to time later ∙ moved.told to time later
 
   all_frames : frames_put (with_events all mid) name ≡ noted_put reaction.put ++ frames_put tr name
   all_frames = frames_with_put reaction.events number reaction.put mid name moved.quiet acting ∙ ap (λ fs. noted_put reaction.put ++ fs) same_frames
@@ -153,8 +196,7 @@ module _ (topo : Topology) (tr : List Entry) (kept after : HostState) (input : I
     towards = moved.towards ∙ stands.towards;
     room = moved.room ∙ stands.room;
     key = moved.key ∙ stands.key;
-    plain = stands.plain;
-    untold = told_put reaction.events number reaction.put mid name moved.quiet ∙ stands.untold;
+    guarded = moved.guarded ∙ stands.guarded;
     down = now_down ∙ sym all_down;
     log_room = log_room;
     log =
@@ -165,13 +207,17 @@ module _ (topo : Topology) (tr : List Entry) (kept after : HostState) (input : I
         moved.next ∙ ap (next_past reaction.events name) stands.next
         ∙ sym (next_with all mid name ∙ next_put reaction.events number reaction.put name (next_leaf mid name));
     stop = λ up. moved.stop ∙ ap (stop_past reaction.events name) (stands.stop (was_up up)) ∙ sym all_stop;
-    disk = disk;
+    halt = λ up. moved.halt ∙ now_halt (was_up up);
+    told = subst (λ now. SameInForce now (told_to (with_events all mid) name) (shut_in after.guard)) (sym all_now)
+        (subst (λ (told : List ShutOff). SameInForce (now_of tr) told (shut_in after.guard)) (sym all_told) now_told);
+    untold = λ plain. all_told ∙ ap (told_past reaction.events name) (stands.untold plain) ∙ moved.untold (stands.guarded ∙ plain);
+    disks = disks;
   }
 
 -- after an input that lets a host act, the host stands for the trace with its reaction
 pub follows : (topo : Topology) (tr : List Entry) (at : Seat) (kept after : HostState) (input : Input) (number : ℕ) (reaction : Reaction)
-    → StandsFor topo tr at kept → Follows kept reaction after → DiskSpends after.key → lets_act tr input at.name ≡ true
+    → StandsFor topo tr at kept → Follows (now_of tr) kept reaction after → DisksServe after → lets_act tr input at.name ≡ true
     → StandsFor topo (after_step tr input (numbered number reaction)) at after
-follows topo tr at kept after input number reaction stands moved disk acting =
+follows topo tr at kept after input number reaction stands moved disks acting =
     let P : Seat → Type 0 = λ place. StandsFor topo tr place kept → lets_act tr input place.name ≡ true → StandsFor topo (after_step tr input (numbered number reaction)) place after in
-    subst P stands.seat (λ own own_acting. follows_own topo tr kept after input number reaction own moved disk own_acting) stands acting
+    subst P stands.seat (λ own own_acting. follows_own topo tr kept after input number reaction own moved disks own_acting) stands acting

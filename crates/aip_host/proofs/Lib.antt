@@ -2,6 +2,10 @@ mod Bytes
 mod Fresh
 mod Turns
 mod Noting
+mod Filed
+mod Orders
+mod Withheld
+mod Obeys
 mod Signed
 pub mod Grown
 pub mod Corresponds

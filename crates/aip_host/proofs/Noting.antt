@@ -1,5 +1,5 @@
 -- What a host notes of bytes that it puts.
-use Rattle.std.proofs.Common.{◌≡◌, ℕ, true, false, List, refl, ap, Option, Some, None}
+use Rattle.std.proofs.Common.{◌≡◌, ℕ, true, false, List, refl, Option, Some, None}
 use Rattle.std.specs.Prelude.{IfSome, is_some}
 use Rattle.aip_addr.specs.declared.ids.Address.{Address}
 use Rattle.aip_addr.specs.declared.ids.KeyId.{KeyId}

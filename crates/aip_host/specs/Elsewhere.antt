@@ -3,14 +3,15 @@ use Rattle.std.specs.Prelude.{◌≡◌, ℕ, Bool, true, false, List}
 use Rattle.std.specs.Str.{bytes_eq}
 use Rattle.std.specs.List.{AllByRecursion}
 use Rattle.aip_event.specs.declared.input.Input.{Input}
-use Rattle.aip_event.specs.declared.input.Input.TheVariants.{Restart, Stop}
+use Rattle.aip_event.specs.declared.input.Input.TheVariants.{Restart, Stop, Halt}
 use Rattle.aip_event.specs.declared.event.Event.{Event}
 use Rattle.aip_event.specs.declared.event.Event.TheVariants.{Put, Signed, Stopped, Obeyed, Halted}
 
--- the input starts the host of this name anew, or arms a stop of its signings
+-- the input starts the host of this name anew, or arms a stop of its signings or a halt of its guard
 abbrev pub resets : Input → List ℕ → Bool
 resets (Restart node) name = bytes_eq node name
 resets (Stop host call byte) name = bytes_eq host name
+resets (Halt host call byte) name = bytes_eq host name
 resets _ name = false
 
 -- the event concerns the host of this name: it signs there, it is told a shut-off, or a stop or a halt brings it down

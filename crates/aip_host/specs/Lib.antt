@@ -1,7 +1,10 @@
 pub mod Signing
 pub mod Holding
+pub mod Guarding
+pub mod Guarded
 pub mod HostState
 pub mod After
+pub mod Withholding
 pub mod Ended
 pub mod StandsFor
 pub mod Elsewhere

@@ -1,24 +1,28 @@
 // A host: what it keeps, and what it does where something is asked of it or reaches it.
-ghost use Rattle.std.specs.Prelude.{◌≡◌, ◌≤◌, ℕ, [], length, true, false, Some, IfOk, OnOk, OnErr, IsSome};
+ghost use Rattle.std.specs.Prelude.{◌≡◌, ◌<◌, ◌≤◌, ◌^◌, [], length, true, false, Some, IfOk, IfSome, OnOk, OnErr, IsSome};
 ghost use Rattle.lms_core.specs.Tree.{Key};
 ghost use Rattle.aip_frame.specs.declared.frame.Frame.{Frame as Framed};
 ghost use Rattle.aip_frame.specs.Frame.{frame_bytes, frame_of, most_body};
 ghost use Rattle.sent_log.specs.Log.{empty_log};
 ghost use Rattle.verify_packet.specs.Challenge.{asked_in};
-ghost use Rattle.aip_rules.specs.Host.{answered, at_host, back_up, challenged, put_by, sent_frame, shut_by, taken_at_host};
-ghost use Rattle.aip_rules.specs.Reaction.{happens, puts};
-ghost use Rattle.aip_rules.specs.Standing.{noted_of};
-ghost use Rattle.aip_host.specs.StandsFor.{DiskSpends};
-ghost use Rattle.aip_host.specs.HostState.{key_in, down_in, standing_of};
-ghost use Rattle.aip_host.specs.After.{Follows, IsNew, IsRestarted, logged, stopped_in, with_noted};
+ghost use Rattle.aip_rules.specs.Host.{answered, at_host, back_up, challenged, handed_down, kind_at_host, put_by, sent_frame, shut_by, taken_at_host};
+ghost use Rattle.aip_rules.specs.Reaction.{happens};
+ghost use Rattle.aip_host.specs.StandsFor.{DisksServe};
+ghost use Rattle.aip_host.specs.HostState.{down_of, key_in, standing_of};
+ghost use Rattle.aip_host.specs.After.{Follows, IsNew, IsRestarted, halted_in, stopped_in};
 
 use crate::answering::{answer, challenge_in};
+use crate::falls::{is_halted, is_stopped};
 use crate::framing::data_frame;
+use crate::guard::Guard;
+use crate::hearing::{hear, kept};
+use crate::logging::note_put;
 use crate::signing::SigningKey;
 use crate::silencing::{Demand, silence};
+use crate::withholding::held_back;
 use aip_addr::{Address, Bytes, Memory};
 use aip_event::{Event, Reason, Target};
-use aip_frame::{Frame, Kind, from_of, is_frame, packet_hash, parse, to_of};
+use aip_frame::{Frame, Kind, from_of, packet_hash, parse};
 use aip_rules::{Reaction, Seat};
 use aip_topo::Settings;
 use lms_core::Tree;
@@ -27,8 +31,8 @@ use std::alloc::Global;
 use std::marker::Model;
 use verify_packet::{asked_hash, asked_source};
 
-/// A host as it runs: where it stands, what it remembers of the frames that it put, and its key with the disk on which
-/// that is spent. No guard stands before its sending.
+/// A host as it runs: where it stands, what it remembers of the frames that it put, its key with the disk on which that is
+/// spent, and its guard with the disk on which that keeps what the host was told.
 #[derive(Drop)]
 pub struct Host {
     seat: Seat,
@@ -36,6 +40,7 @@ pub struct Host {
     room: u16,
     log: SentLog,
     key: Option<SigningKey>,
+    guard: Option<Guard>,
 }
 
 impl Model for Host {
@@ -43,52 +48,41 @@ impl Model for Host {
 
     ghost Value = { HostState };
 
-    ghost use Rattle.aip_host.specs.StandsFor.{DiskSpends};
+    ghost use Rattle.aip_host.specs.StandsFor.{DisksServe};
 
-    ghost view = { λ h. record { seat = h.seat; towards = h.towards; room = h.room; log = h.log; key = h.key } };
+    ghost view = { λ h. record { seat = h.seat; towards = h.towards; room = h.room; log = h.log; key = h.key; guard = h.guard } };
 
-    ghost invariant = { λ h. DiskSpends h.key };
-}
-
-// Notes bytes that are put, if they are a frame.
-#[tactic(auto, using(crate::proofs::Noting::noted_is, crate::proofs::Noting::none_is))]
-fn note(log: &mut SentLog, bytes: &[u8])
-    ensures { log.new ≡ with_noted log.old (noted_of (frame_of bytes.now)) }
-{
-    if is_frame(bytes) {
-        log.note(&packet_hash(bytes), &to_of(bytes).eid.key_id());
-    }
-}
-
-// Notes what a reaction puts, if it is a frame.
-fn note_put(log: &mut SentLog, reaction: &Reaction)
-    ensures { log.new ≡ logged log.old reaction.now.put }
-{
-    if let Some(flight) = &reaction.put {
-        note(log, flight.bytes.as_slice());
-    }
+    ghost invariant = { λ h. DisksServe (record { seat = h.seat; towards = h.towards; room = h.room; log = h.log; key = h.key; guard = h.guard }) };
 }
 
 impl Host {
     ghost use Rattle.aip_rules.specs.Step.{has_key};
 
     /// A host at its seat, with its port of its router, that has put nothing. The key is that of its tree, with no leaf
-    /// spent. The only error is want of memory.
+    /// spent. A guard, if it has one, was told nothing. The only error is want of memory.
     pub fn new(
         alloc: Global,
         seat: Seat,
         towards: Target,
         settings: &Settings,
         key: Option<Tree>,
+        guarded: bool,
     ) -> Result<Host, Memory>
         requires log { 1 ≤ settings.now.log }
-        ensures new { IfOk result (λ host. IsNew seat towards settings.now key host) }
-        ensures disk { IfOk result (λ host. DiskSpends host.key) }
+        requires some { 1 ≤ settings.now.filter }
+        requires few { settings.now.filter ≤ 256 }
+        ensures new { IfOk result (λ host. IsNew seat towards settings.now key guarded host) }
+        ensures disks { IfOk result (λ host. DisksServe host) }
     {
         let log = SentLog::new(alloc, settings.log)?;
         let key = match key {
             Some(tree) => Some(SigningKey::new(alloc, tree)?),
             None => None,
+        };
+        let guard = if guarded {
+            Some(Guard::new(alloc, settings.filter)?)
+        } else {
+            None
         };
         Ok(Host {
             seat,
@@ -96,13 +90,14 @@ impl Host {
             room: settings.filter,
             log,
             key,
+            guard,
         })
     }
 
     /// Where it stands.
     pub fn seat(&self) -> Seat
         ensures seat { result ≡ self.now.seat }
-        ensures disk { DiskSpends self.now.key }
+        ensures disks { DisksServe self.now }
     {
         self.seat
     }
@@ -114,23 +109,27 @@ impl Host {
         self.key.is_some()
     }
 
-    // Whether a stop brought it down.
+    // Whether a stop or a halt brought it down.
     fn is_down(&self) -> bool
-        ensures { result ≡ down_in self.now.key }
+        ensures { result ≡ down_of self.now }
     {
-        match &self.key {
-            Some(key) => key.is_down(),
-            None => false,
-        }
+        is_stopped(&self.key) || is_halted(&self.guard)
     }
 
-    // Puts bytes towards its port of its router.
-    fn put(&mut self, alloc: Global, bytes: Bytes) -> Reaction
-        ensures reaction { result ≡ puts self.old.towards bytes }
-        ensures after { self.new ≡ record self.old { log = with_noted self.old.log (noted_of (frame_of bytes)) } }
+    // Hands bytes down towards its port of its router, unless its guard withholds them.
+    fn put(&mut self, alloc: Global, now: u64, bytes: Bytes) -> Result<Reaction, Memory>
+        requires up { down_of self.old ≡ false }
+        requires soon { now < 2 ^ 48 }
+        ensures reaction { IfOk result (λ reaction. reaction ≡ handed_down (standing_of self.old now) bytes) }
+        ensures follows { IfOk result (λ reaction. Follows now self.old reaction self.new) }
+        ensures same { OnErr result (self.new ≡ self.old) }
+        ensures disks { DisksServe self.new }
+        ensures seat { self.new.seat ≡ self.old.seat }
     {
-        note(&mut self.log, bytes.as_slice());
-        Reaction::puts(alloc, self.towards, bytes)
+        let puts = Reaction::puts(alloc, self.towards, bytes);
+        let reaction = held_back(self.seat.name, &self.guard, now, puts)?;
+        note_put(&mut self.log, &reaction);
+        Ok(reaction)
     }
 
     /// Sends a packet of data. While the host is down it is dropped. The only error is want of memory: then nothing
@@ -138,66 +137,78 @@ impl Host {
     pub fn send(
         &mut self,
         alloc: Global,
+        now: u64,
         to: Address,
         packet: u32,
         body: &[u8],
     ) -> Result<Reaction, Memory>
-        requires { length body.now ≤ most_body }
-        ensures reaction { (now : ℕ) → IfOk result (λ reaction. reaction
+        requires soon { now < 2 ^ 48 }
+        requires body { length body.now ≤ most_body }
+        ensures reaction { IfOk result (λ reaction. reaction
             ≡ put_by (standing_of self.old now) (frame_bytes (sent_frame to self.old.seat.address packet body.now))) }
-        ensures follows { IfOk result (λ reaction. Follows self.old reaction self.new) }
+        ensures follows { IfOk result (λ reaction. Follows now self.old reaction self.new) }
         ensures same { OnErr result (self.new ≡ self.old) }
-        ensures disk { DiskSpends self.new.key }
+        ensures disks { DisksServe self.new }
         ensures seat { self.new.seat ≡ self.old.seat }
     {
         if self.is_down() {
             return Reaction::dropped(alloc, self.seat.name, Reason::Down);
         }
         let bytes = data_frame(alloc, to, self.seat.address, packet, body)?;
-        Ok(self.put(alloc, bytes))
+        self.put(alloc, now, bytes)
     }
 
     /// Puts bytes as they are. While the host is down they are dropped. The only error is want of memory: then nothing
     /// changes.
-    pub fn raw(&mut self, alloc: Global, bytes: &[u8]) -> Result<Reaction, Memory>
-        ensures reaction { (now : ℕ) → IfOk result (λ reaction. reaction ≡ put_by (standing_of self.old now) bytes.now) }
-        ensures follows { IfOk result (λ reaction. Follows self.old reaction self.new) }
+    pub fn raw(&mut self, alloc: Global, now: u64, bytes: &[u8]) -> Result<Reaction, Memory>
+        requires soon { now < 2 ^ 48 }
+        ensures reaction { IfOk result (λ reaction. reaction ≡ put_by (standing_of self.old now) bytes.now) }
+        ensures follows { IfOk result (λ reaction. Follows now self.old reaction self.new) }
         ensures same { OnErr result (self.new ≡ self.old) }
-        ensures disk { DiskSpends self.new.key }
+        ensures disks { DisksServe self.new }
         ensures seat { self.new.seat ≡ self.old.seat }
     {
         if self.is_down() {
             return Reaction::dropped(alloc, self.seat.name, Reason::Down);
         }
         let bytes = Bytes::from_slice(alloc, bytes)?;
-        Ok(self.put(alloc, bytes))
+        self.put(alloc, now, bytes)
     }
 
     /// What the host does where bytes arrive. The only error is want of memory: then a leaf may be spent, and the run
     /// can't go on.
     pub fn arrive(&mut self, alloc: Global, now: u64, bytes: &[u8]) -> Result<Reaction, Memory>
+        requires soon { now < 2 ^ 48 }
         ensures reaction { IfOk result (λ reaction. reaction ≡ at_host (standing_of self.old now) bytes.now) }
-        ensures follows { IfOk result (λ reaction. Follows self.old reaction self.new) }
-        ensures disk { DiskSpends self.new.key }
+        ensures follows { IfOk result (λ reaction. Follows now self.old reaction self.new) }
+        ensures disks { DisksServe self.new }
         ensures seat { self.new.seat ≡ self.old.seat }
     {
         if self.is_down() {
             return Reaction::dropped(alloc, self.seat.name, Reason::Down);
         }
         match parse(alloc, bytes) {
-            Ok(Some(frame)) => self.take(alloc, now, &frame),
+            Ok(Some(frame)) => self.take(alloc, now, bytes, &frame),
             Ok(None) => Reaction::dropped(alloc, self.seat.name, Reason::Bad),
             Err(end) => Err(end),
         }
     }
 
-    // What a host that is up does with a frame.
-    fn take(&mut self, alloc: Global, now: u64, frame: &Frame) -> Result<Reaction, Memory>
-        requires up { down_in self.old.key ≡ false }
+    // What a host that is up does with a frame of these bytes.
+    fn take(
+        &mut self,
+        alloc: Global,
+        now: u64,
+        bytes: &[u8],
+        frame: &Frame,
+    ) -> Result<Reaction, Memory>
+        requires up { down_of self.old ≡ false }
+        requires soon { now < 2 ^ 48 }
+        requires bytes { frame_of bytes.now ≡ Some frame.now }
         requires challenge { frame.now.kind ≡ Kind.Challenge → length frame.now.body ≡ 154 }
         ensures reaction { IfOk result (λ reaction. reaction ≡ taken_at_host (standing_of self.old now) (Some frame.now)) }
-        ensures follows { IfOk result (λ reaction. Follows self.old reaction self.new) }
-        ensures disk { DiskSpends self.new.key }
+        ensures follows { IfOk result (λ reaction. Follows now self.old reaction self.new) }
+        ensures disks { DisksServe self.new }
         ensures seat { self.new.seat ≡ self.old.seat }
     {
         if self.seat.address != frame.to {
@@ -205,9 +216,9 @@ impl Host {
         }
         match frame.kind {
             Kind::Data => self.receive(alloc, frame.packet),
-            Kind::Challenge => self.weigh(alloc, frame),
+            Kind::Challenge => self.weigh(alloc, now, frame),
             Kind::Response => Reaction::dropped(alloc, self.seat.name, Reason::Kind),
-            Kind::ShutOff => Reaction::dropped(alloc, self.seat.name, Reason::Unguarded),
+            Kind::ShutOff => self.heed(alloc, now, bytes),
         }
     }
 
@@ -224,14 +235,33 @@ impl Host {
         )
     }
 
+    // What a host that is up does with a shut-off.
+    fn heed(&mut self, alloc: Global, now: u64, bytes: &[u8]) -> Result<Reaction, Memory>
+        requires up { down_of self.old ≡ false }
+        requires soon { now < 2 ^ 48 }
+        requires frame { IsSome (frame_of bytes.now) }
+        requires shutoff { IfSome (frame_of bytes.now) (λ f. f.kind ≡ Kind.ShutOff) }
+        ensures reaction { (f : Framed) → frame_of bytes.now ≡ Some f
+            → IfOk result (λ reaction. reaction ≡ kind_at_host (standing_of self.old now) f Kind.ShutOff) }
+        ensures follows { IfOk result (λ reaction. Follows now self.old reaction self.new) }
+        ensures disks { DisksServe self.new }
+        ensures seat { self.new.seat ≡ self.old.seat }
+    {
+        match &mut self.guard {
+            Some(guard) => hear(alloc, self.seat.name, guard, &self.log, now, bytes),
+            None => Reaction::dropped(alloc, self.seat.name, Reason::Unguarded),
+        }
+    }
+
     // What a host that is up does with a challenge.
-    fn weigh(&mut self, alloc: Global, challenge: &Frame) -> Result<Reaction, Memory>
-        requires up { down_in self.old.key ≡ false }
+    fn weigh(&mut self, alloc: Global, now: u64, challenge: &Frame) -> Result<Reaction, Memory>
+        requires up { down_of self.old ≡ false }
+        requires soon { now < 2 ^ 48 }
         requires challenge { length challenge.now.body ≡ 154 }
-        ensures reaction { (now : ℕ) → IfOk result (λ reaction. reaction
+        ensures reaction { IfOk result (λ reaction. reaction
             ≡ challenged (standing_of self.old now) challenge.now (asked_in challenge.now.body)) }
-        ensures follows { IfOk result (λ reaction. Follows self.old reaction self.new) }
-        ensures disk { DiskSpends self.new.key }
+        ensures follows { IfOk result (λ reaction. Follows now self.old reaction self.new) }
+        ensures disks { DisksServe self.new }
         ensures seat { self.new.seat ≡ self.old.seat }
     {
         let asked = challenge_in(challenge);
@@ -241,22 +271,24 @@ impl Host {
         if !self.log.holds_any(&asked_hash(&asked)) {
             return Reaction::dropped(alloc, self.seat.name, Reason::Unlogged);
         }
-        self.respond(alloc, challenge)
+        self.respond(alloc, now, challenge)
     }
 
     // Answers a challenge, if the host has a key.
-    fn respond(&mut self, alloc: Global, challenge: &Frame) -> Result<Reaction, Memory>
-        requires up { down_in self.old.key ≡ false }
+    fn respond(&mut self, alloc: Global, now: u64, challenge: &Frame) -> Result<Reaction, Memory>
+        requires up { down_of self.old ≡ false }
+        requires soon { now < 2 ^ 48 }
         requires challenge { length challenge.now.body ≡ 154 }
-        ensures reaction { (now : ℕ) → IfOk result (λ reaction. reaction
+        ensures reaction { IfOk result (λ reaction. reaction
             ≡ answered (standing_of self.old now) challenge.now (key_in self.old.key)) }
-        ensures follows { IfOk result (λ reaction. Follows self.old reaction self.new) }
-        ensures disk { DiskSpends self.new.key }
+        ensures follows { IfOk result (λ reaction. Follows now self.old reaction self.new) }
+        ensures disks { DisksServe self.new }
         ensures seat { self.new.seat ≡ self.old.seat }
     {
         match &mut self.key {
             Some(key) => {
-                let reaction = answer(alloc, key, &self.seat, self.towards, challenge)?;
+                let signed = answer(alloc, key, &self.seat, self.towards, challenge)?;
+                let reaction = held_back(self.seat.name, &self.guard, now, signed)?;
                 note_put(&mut self.log, &reaction);
                 Ok(reaction)
             }
@@ -273,12 +305,13 @@ impl Host {
         named: &[u8],
         ttl: u32,
     ) -> Result<Reaction, Memory>
+        requires soon { now < 2 ^ 48 }
         requires key { has_key (key_in self.old.key) ≡ true }
         requires frame { IsSome (frame_of named.now) }
         ensures reaction { (key : Key) (frame : Framed) → key_in self.old.key ≡ Some key → frame_of named.now ≡ Some frame
             → IfOk result (λ reaction. reaction ≡ shut_by (standing_of self.old now) key frame ttl) }
-        ensures follows { IfOk result (λ reaction. Follows self.old reaction self.new) }
-        ensures disk { DiskSpends self.new.key }
+        ensures follows { IfOk result (λ reaction. Follows now self.old reaction self.new) }
+        ensures disks { DisksServe self.new }
         ensures seat { self.new.seat ≡ self.old.seat }
     {
         if self.is_down() {
@@ -292,7 +325,8 @@ impl Host {
         };
         match &mut self.key {
             Some(key) => {
-                let reaction = silence(alloc, key, &self.seat, self.towards, &demand)?;
+                let signed = silence(alloc, key, &self.seat, self.towards, &demand)?;
+                let reaction = held_back(self.seat.name, &self.guard, now, signed)?;
                 note_put(&mut self.log, &reaction);
                 Ok(reaction)
             }
@@ -307,7 +341,7 @@ impl Host {
         requires first { 1 ≤ call }
         requires last { call ≤ 2 }
         ensures stop { self.new ≡ record self.old { key = stopped_in self.old.key (record { call = call; byte = byte }) } }
-        ensures disk { DiskSpends self.new.key }
+        ensures disks { DisksServe self.new }
         ensures seat { self.new.seat ≡ self.old.seat }
     {
         if let Some(key) = &mut self.key {
@@ -315,26 +349,48 @@ impl Host {
         }
     }
 
-    /// Arms a halt of the disk on which a guard keeps shut-offs. There is no guard, so nothing changes.
-    pub fn halt(&mut self, _call: u8, _byte: u8)
-        ensures same { self.new ≡ self.old }
-        ensures disk { DiskSpends self.new.key }
+    /// Arms a halt at the call of its guard's next write, 1 to 4, which leaves the byte. It takes the place of one that is armed.
+    /// Without a guard, or while that is down, nothing changes.
+    pub fn halt(&mut self, call: u8, byte: u8)
+        requires first { 1 ≤ call }
+        requires last { call ≤ 4 }
+        ensures halt { self.new ≡ record self.old { guard = halted_in self.old.guard (record { call = call; byte = byte }) } }
+        ensures disks { DisksServe self.new }
         ensures seat { self.new.seat ≡ self.old.seat }
     {
-        let _ = &self.seat;
+        if let Some(guard) = &mut self.guard {
+            guard.halt(call, byte);
+        }
     }
 
-    /// Starts the host anew: its log is empty, and its key's disk is restarted. What it says then is nothing.
-    pub fn restart(&mut self, alloc: Global) -> Result<Reaction, Memory>
-        ensures reaction { (now : ℕ) → IfOk result (λ reaction. reaction ≡ back_up (standing_of self.old now)) }
+    // Clears the log, and restarts the disks.
+    fn wake(&mut self)
         ensures restarted { IsRestarted self.old self.new }
-        ensures disk { DiskSpends self.new.key }
+        ensures disks { DisksServe self.new }
         ensures seat { self.new.seat ≡ self.old.seat }
     {
         self.log.clear();
         if let Some(key) = &mut self.key {
             key.restart();
         }
-        Ok(Reaction::nothing(alloc))
+        if let Some(guard) = &mut self.guard {
+            guard.restart();
+        }
+    }
+
+    /// Starts the host anew: its log is empty, and its disks are restarted. A guarded host then tells what is in force. The only
+    /// error is want of memory: the host is up then too.
+    pub fn restart(&mut self, alloc: Global, now: u64) -> Result<Reaction, Memory>
+        requires soon { now < 2 ^ 48 }
+        ensures reaction { IfOk result (λ reaction. reaction ≡ back_up (standing_of self.old now)) }
+        ensures restarted { IsRestarted self.old self.new }
+        ensures disks { DisksServe self.new }
+        ensures seat { self.new.seat ≡ self.old.seat }
+    {
+        self.wake();
+        match &self.guard {
+            Some(guard) => kept(alloc, self.seat.name, guard, now),
+            None => Ok(Reaction::nothing(alloc)),
+        }
     }
 }

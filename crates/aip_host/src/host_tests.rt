@@ -1,5 +1,5 @@
 //! Hosts of networks that two other implementations ran: what they put, answer, drop and sign, and what they forget.
-ghost use Rattle.std.specs.Prelude.{◌≤◌};
+ghost use Rattle.std.specs.Prelude.{◌≡◌, ◌≤◌, IfSome};
 
 use crate::Host;
 use aip_addr::{Address, Id, Name};
@@ -12,8 +12,8 @@ use sha2::{Digest, Sha256};
 use std::alloc::Global;
 use std::test::Fail;
 
-// The packet 1 that host a sends to host b.
-const PACKET: [u8; 91] = *b"\
+/// The packet 1 that host a sends to host b.
+pub const PACKET: [u8; 91] = *b"\
     \x01\x00\x40\x00\x00\x00\x00\x01\x01\x11\x11\x11\x11\x11\x11\x11\x11\x11\x11\x11\x11\x11\x11\x11\x11\x11\x11\
     \x00\x01\x80\x32\x6a\xee\x46\x27\xa6\x80\xa8\x2b\x2e\x03\xb5\x4a\x12\x77\xd7\xee\x00\x01\x11\x11\x11\x11\x11\
     \x11\x11\x11\x11\x11\x11\x11\x11\x11\x11\x11\x11\x11\x00\x01\x4b\x9c\x00\xc6\x6d\x49\x57\x0c\x20\xa6\xf6\xd6\
@@ -40,13 +40,16 @@ const RESPONSE_DIGEST: [u8; 32] = *b"\
 const SHUTOFF_DIGEST: [u8; 32] = *b"\
     \xf0\x9e\xf6\x5b\x86\x15\x50\x81\x60\xa2\x19\xe6\x40\x17\x60\xa7\x32\xd0\xa9\xcd\x62\xcb\xa2\xef\xa5\x99\x01\x71\xfc\x5f\x4b\x0a";
 
-const HOST_A: [u8; 20] = *b"\
+/// The id of host a.
+pub const HOST_A: [u8; 20] = *b"\
     \x01\x4b\x9c\x00\xc6\x6d\x49\x57\x0c\x20\xa6\xf6\xd6\x8a\xcc\x49\x4f\xcd\xdb\x00";
 
-const HOST_B: [u8; 20] = *b"\
+/// The id of host b.
+pub const HOST_B: [u8; 20] = *b"\
     \x01\x80\x32\x6a\xee\x46\x27\xa6\x80\xa8\x2b\x2e\x03\xb5\x4a\x12\x77\xd7\xee\x00";
 
-fn address(eid: [u8; 20]) -> Address {
+/// The address of a host of the network's one domain.
+pub fn address(eid: [u8; 20]) -> Address {
     let mut ad = [0x11; 20];
     ad[0] = 1;
     ad[19] = 0;
@@ -56,15 +59,14 @@ fn address(eid: [u8; 20]) -> Address {
     }
 }
 
-fn settings(log: u16) -> Settings
-    requires { 1 ≤ log }
-    ensures { 1 ≤ result.log }
+fn settings(log: u16, filter: u16) -> Settings
+    ensures { (result.log ≡ log) × (result.filter ≡ filter) }
 {
     Settings {
         accept: 600,
         cache: 64,
         epoch: 60,
-        filter: 16,
+        filter,
         log,
         threshold: 8,
         wild: 600,
@@ -72,19 +74,23 @@ fn settings(log: u16) -> Settings
     }
 }
 
-fn seed(alloc: Global, byte: u8) -> Result<Tree, Fail> {
+/// The key of the seed of 32 of these bytes.
+pub fn seed(alloc: Global, byte: u8) -> Result<Tree, Fail> {
     let tree = Tree::build(alloc, &[byte; 32], Width::W4, Height::H5)?;
     Ok(tree)
 }
 
-fn host(
+/// Host `name`, with a log of so many frames, behind a guard with room for so many key identifiers or without one.
+pub fn host(
     alloc: Global,
     name: &[u8],
     eid: [u8; 20],
     key: Option<Tree>,
     log: u16,
+    guard: Option<u16>,
 ) -> Result<Host, Fail>
-    requires { 1 ≤ log }
+    requires log { 1 ≤ log }
+    requires guard { IfSome guard (λ filter. (1 ≤ filter) × (filter ≤ 256)) }
 {
     let seat = Seat {
         name: Name::read(name).ok_or("a name")?,
@@ -96,7 +102,10 @@ fn host(
         router: Name::read(b"r").ok_or("a name")?,
         port: 0,
     };
-    let host = Host::new(alloc, seat, towards, &settings(log), key)?;
+    let host = match guard {
+        Some(filter) => Host::new(alloc, seat, towards, &settings(log, filter), key, true)?,
+        None => Host::new(alloc, seat, towards, &settings(log, 16), key, false)?,
+    };
     Ok(host)
 }
 
@@ -105,11 +114,11 @@ fn host_a(alloc: Global, log: u16) -> Result<Host, Fail>
     requires { 1 ≤ log }
 {
     let tree = seed(alloc, 1)?;
-    host(alloc, b"a", HOST_A, Some(tree), log)
+    host(alloc, b"a", HOST_A, Some(tree), log, None)
 }
 
-// Why a host dropped what reached it, if that is all that happened.
-fn drop_in(reaction: &Reaction) -> Option<Reason> {
+/// Why a host dropped what reached it, if that is all that happened.
+pub fn drop_in(reaction: &Reaction) -> Option<Reason> {
     match (reaction.events.as_slice(), &reaction.put) {
         ([Event::Drop { node: _, reason }], None) => Some(*reason),
         _ => None,
@@ -142,8 +151,8 @@ fn stop_in(reaction: &Reaction) -> Option<u64> {
     }
 }
 
-// The SHA-256 of the bytes that are put.
-fn digest_in(reaction: &Reaction) -> Option<[u8; 32]> {
+/// The SHA-256 of the bytes that are put.
+pub fn digest_in(reaction: &Reaction) -> Option<[u8; 32]> {
     match &reaction.put {
         Some(flight) => Some(Sha256::digest(flight.bytes.as_slice())),
         None => None,
@@ -152,7 +161,7 @@ fn digest_in(reaction: &Reaction) -> Option<[u8; 32]> {
 
 // Sends the packet of this id from host a to host b.
 fn send(alloc: Global, host: &mut Host, packet: u32) -> Result<Reaction, Fail> {
-    let reaction = host.send(alloc, address(HOST_B), packet, &[0])?;
+    let reaction = host.send(alloc, 0, address(HOST_B), packet, &[0])?;
     Ok(reaction)
 }
 
@@ -193,7 +202,7 @@ fn a_challenge_for_another_host_or_packet_is_dropped(rt: HostRuntime) -> Result<
 #[test]
 fn a_host_without_a_key_is_mute(rt: HostRuntime) -> Result<(), Fail> {
     let alloc = rt.alloc();
-    let mut host = host(alloc, b"a", HOST_A, None, 128)?;
+    let mut host = host(alloc, b"a", HOST_A, None, 128, None)?;
     assert!(rt; !host.has_key());
     let _sent = send(alloc, &mut host, 1)?;
     let reaction = host.arrive(alloc, 0, &CHALLENGE)?;
@@ -209,7 +218,7 @@ fn a_log_of_two_forgets_the_third_last_frame(rt: HostRuntime) -> Result<(), Fail
     let _first = send(alloc, &mut host, 1)?;
     let _second = send(alloc, &mut host, 2)?;
     for length in [1usize, 89, 90] {
-        let noise = host.raw(alloc, &PACKET[..length])?;
+        let noise = host.raw(alloc, 0, &PACKET[..length])?;
         assert!(rt; noise.put.is_some());
     }
     let answer = host.arrive(alloc, 0, &CHALLENGE)?;
@@ -238,7 +247,7 @@ fn a_dry_host_answers_no_more(rt: HostRuntime) -> Result<(), Fail> {
 fn a_shut_off_names_a_frame(rt: HostRuntime) -> Result<(), Fail> {
     let alloc = rt.alloc();
     let tree = seed(alloc, 2)?;
-    let mut host = host(alloc, b"b", HOST_B, Some(tree), 128)?;
+    let mut host = host(alloc, b"b", HOST_B, Some(tree), 128, None)?;
     assert!(rt; host.has_key());
     assert!(rt; is_frame(&PACKET));
     let reaction = host.shut(alloc, 5, &PACKET, 10)?;
@@ -247,21 +256,31 @@ fn a_shut_off_names_a_frame(rt: HostRuntime) -> Result<(), Fail> {
     Ok(())
 }
 
-#[test]
-fn a_host_is_down_from_a_stop_to_its_restart(rt: HostRuntime) -> Result<(), Fail> {
-    let alloc = rt.alloc();
+// Host a, which a stop brought down while it signed with its leaf 0.
+fn fallen(alloc: Global) -> Result<Host, Fail> {
     let mut host = host_a(alloc, 128)?;
     let _sent = send(alloc, &mut host, 1)?;
-    assert!(rt; host.has_key());
+    if !host.has_key() {
+        return Err(Fail::from("a key"));
+    }
     host.stop(1, 255);
     host.halt(1, 255);
     let stopped = host.arrive(alloc, 0, &CHALLENGE)?;
-    assert_eq!(rt; stop_in(&stopped), Some(0));
+    if stop_in(&stopped) != Some(0) {
+        return Err(Fail::from("a stop at leaf 0"));
+    }
+    Ok(host)
+}
+
+#[test]
+fn a_host_is_down_from_a_stop_to_its_restart(rt: HostRuntime) -> Result<(), Fail> {
+    let alloc = rt.alloc();
+    let mut host = fallen(alloc)?;
     let sent = send(alloc, &mut host, 1)?;
     assert_eq!(rt; drop_in(&sent), Some(Reason::Down));
     let reaction = host.arrive(alloc, 0, &CHALLENGE)?;
     assert_eq!(rt; drop_in(&reaction), Some(Reason::Down));
-    let _said = host.restart(alloc)?;
+    let _said = host.restart(alloc, 0)?;
     let reaction = host.arrive(alloc, 0, &CHALLENGE)?;
     assert_eq!(rt; drop_in(&reaction), Some(Reason::Unlogged));
     let _sent = send(alloc, &mut host, 1)?;

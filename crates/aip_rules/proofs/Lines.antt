@@ -9,7 +9,7 @@ use Rattle.aip_rules.specs.declared.Entry.{Entry}
 use Rattle.aip_rules.specs.declared.StepFault.{StepFault}
 use Rattle.aip_rules.specs.declared.StepFault.TheVariants as fault
 use Rattle.aip_rules.specs.Step.{is_built, step_of, after_step, trace_from, goes_on}
-use Rattle.aip_rules.specs.Texts.{Ending, Done, Topology_refused, Schedule_refused, Topology_unbuilt, Input_unbuilt, Ran, scheduled, input_or_form, by_step, by_input, by_line, ran_from, lines_before, inputs_in_line, inputs_in, IsTraceOfLines}
+use Rattle.aip_rules.specs.Texts.{Ending, Done, Topology_refused, Schedule_refused, Input_unbuilt, Ran, scheduled, input_or_form, by_step, by_input, by_line, ran_from, lines_before, inputs_in_line, inputs_in, IsTraceOfLines}
 
 -- the run ends at a line from this one on, or at none
 abbrev pub EndsFrom : ℕ → Ending → Type 0
@@ -17,7 +17,6 @@ EndsFrom number Done = Unit {0}
 EndsFrom number (Schedule_refused line f) = number ≤ line
 EndsFrom number (Input_unbuilt line) = number ≤ line
 EndsFrom number (Topology_refused line f) = ⊥
-EndsFrom number Topology_unbuilt = ⊥
 
 -- a run from a trace on over these lines: it ends at one of them or at none, and its trace is that of their inputs
 pub record IsOfLines (topo : Topology) (tr : List Entry) (number : ℕ) (lines : List (List ℕ)) (r : Ran) : Type 0 where
@@ -47,14 +46,12 @@ first_before number (Schedule_refused at f) line lines h =
 first_before number (Input_unbuilt at) line lines h =
     let more : at - number ≡ suc (at - (number + 1)) = omega arith in ap (λ n. take n (line ∷ lines)) more
 first_before number (Topology_refused at f) line lines h = absurd h
-first_before number Topology_unbuilt line lines h = absurd h
 
 earlier : (number : ℕ) (ending : Ending) → EndsFrom (number + 1) ending → EndsFrom number ending
 earlier number Done h = tt
 earlier number (Schedule_refused at f) h = omega arith
 earlier number (Input_unbuilt at) h = omega arith
 earlier number (Topology_refused at f) h = h
-earlier number Topology_unbuilt h = h
 
 -- the inputs of one line
 abbrev pub inputs_at : List ℕ → List Input

@@ -1,14 +1,11 @@
 -- What is written for a topology and a schedule, and how the run ends.
-use Rattle.std.specs.Prelude.{◌≡◌, ℕ, ◌+◌, ◌-◌, Bool, true, false, if◌then◌else◌, nat_lt, List, [], ◌∷◌, ◌++◌, length, take, codes, Option, Some, None, Result, Ok, Err}
-use Rattle.std.specs.List.{list_all}
+use Rattle.std.specs.Prelude.{◌≡◌, ℕ, ◌+◌, ◌-◌, if◌then◌else◌, nat_lt, List, [], ◌∷◌, ◌++◌, length, take, codes, Option, Some, None, Result, Ok, Err}
 use Rattle.std.specs.Fmt.{decimal}
 use Rattle.aip_text.specs.Lines.{lines_of, is_skipped, has_carriage_return}
 use Rattle.aip_event.specs.declared.input.Input.{Input}
 use Rattle.aip_event.specs.declared.event.Event.{Event}
 use Rattle.aip_event.specs.Lines.{input_line, event_line}
 use Rattle.aip_event.specs.Reading.{input_of}
-use Rattle.aip_topo.specs.declared.topology.Part.{Part}
-use Rattle.aip_topo.specs.declared.topology.Part.TheVariants.{Host, Link}
 use Rattle.aip_topo.specs.declared.topology.Topology.{Topology}
 use Rattle.aip_topo.specs.declared.faults.TopoFault.{TopoFault}
 use Rattle.aip_topo.specs.Reading.{RefusedLine, topology_of}
@@ -64,13 +61,12 @@ scheduled number line =
     if is_skipped line then Ok None else
     input_or_form (input_of line)
 
--- how a run ends: the schedule is done, the topology or the schedule is refused at a line for a fault, or the topology
--- or an input on a line is outside of what is built
+-- how a run ends: the schedule is done, the topology or the schedule is refused at a line for a fault, or an input on a
+-- line is outside of what is built
 pub data Ending : Type 0 where
   Done : Ending
   Topology_refused : (line : ℕ) → TopoFault → Ending
   Schedule_refused : (line : ℕ) → StepFault → Ending
-  Topology_unbuilt : Ending
   Input_unbuilt : (line : ℕ) → Ending
 
 -- what a schedule comes to: the trace of the inputs before its end or its first refused line, and how it ends
@@ -106,18 +102,9 @@ ran_from topo tr number (line ∷ lines) =
 abbrev pub ran : Topology → List ℕ → Ran
 ran topo schedule = ran_from topo [] 1 (lines_of schedule)
 
--- a link, or a plain host
-abbrev pub is_plain : Part → Bool
-is_plain (Host host) = if host.guarded then false else true
-is_plain (Link link) = true
-
--- the topologies that are built: every host is plain
-abbrev pub is_built_topology : Topology → Bool
-is_built_topology topo = list_all is_plain topo.parts
-
--- the run over what a topology text gives; nothing is run where it is refused or not built
+-- the run over what a topology text gives; nothing is run where it is refused
 abbrev pub ran_over : Result Topology RefusedLine → List ℕ → Ran
-ran_over (Ok topo) schedule = if is_built_topology topo then ran topo schedule else record { trace = []; ending = Topology_unbuilt }
+ran_over (Ok topo) schedule = ran topo schedule
 ran_over (Err refused) schedule = record { trace = []; ending = Topology_refused refused.line refused.fault }
 
 -- what ends the text: a refusal line where a line of the schedule is refused
@@ -125,7 +112,6 @@ abbrev pub ending_text : Ending → List ℕ
 ending_text (Schedule_refused line f) = refusal_line line f
 ending_text Done = []
 ending_text (Topology_refused line f) = []
-ending_text Topology_unbuilt = []
 ending_text (Input_unbuilt line) = []
 
 -- the text of a run: that of its trace, and the refusal line where there is one
@@ -146,7 +132,6 @@ lines_before number (Schedule_refused line f) lines = take (line - number) lines
 lines_before number (Input_unbuilt line) lines = take (line - number) lines
 lines_before number Done lines = lines
 lines_before number (Topology_refused line f) lines = []
-lines_before number Topology_unbuilt lines = []
 
 -- the input of a line, if it has one
 abbrev pub inputs_in_line : Option Input → List Input

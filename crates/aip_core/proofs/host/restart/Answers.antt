@@ -3,4 +3,4 @@ use Rattle.aip_rules.specs.declared.Reaction.{Reaction}
 use Rattle.aip_core.proofs.host.restart.Goals as goal
 
 pub returns-clause-does : goal.returns-clause-does
-returns-clause-does c = λ now. (ap (λ (r : Reaction). Ok r) (sym (c.in_ok-restart.ensures.reaction now)), record { anew = c.restart.ensures.restarted; disk = c.restart.ensures.disk })
+returns-clause-does c = (ap (λ (r : Reaction). Ok r) (sym c.in_ok-restart.ensures.reaction), record { anew = c.restart.ensures.restarted; disks = c.restart.ensures.disks })

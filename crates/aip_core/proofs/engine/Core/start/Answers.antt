@@ -12,10 +12,10 @@ use Rattle.aip_rules.specs.Routes.{domains_of_routers}
 use Rattle.aip_core.specs.Directory.{SitsBelow}
 use Rattle.aip_core.specs.Rooms.{IsBootedUpTo}
 use Rattle.aip_core.specs.RouterMachine.{RouterState, router_at_start}
-use Rattle.aip_core.specs.Starting.{AreNewHosts, host_keys}
+use Rattle.aip_core.specs.Starting.{AreNewHosts, hosts_on}
 use Rattle.aip_core.specs.Wiring.{Wired, IsWiringOf}
 use Rattle.aip_core.proofs.Stands.{few_parts, few_seats, seated, sound_graph, wiring_of}
-use Rattle.aip_core.proofs.Begins.{keys_count, new_seated, replicate_count, all_same}
+use Rattle.aip_core.proofs.Begins.{hosts_count, new_seated, replicate_count, all_same}
 use Rattle.aip_core.proofs.engine.Core.start.Goals as goal
 
 pub places_of-requires-clause-few : goal.places_of-requires-clause-few
@@ -34,8 +34,8 @@ hosts_of-requires-clause-each c =
     let seats : c.deref.result.now ≡ seats_of c.args.topology =
     c.deref.ensures.value ∙ c.in_ok-seats.ensures.seats ∙ ap (λ (rs : List Router). seats_after rs [] c.as_slice-parts.result.now) c.as_slice-routers.ensures.routers
     ∙ ap (λ (ps : List Part). seats_after c.args.topology.routers [] ps) c.as_slice-parts.ensures in
-    ap (λ (ss : List Seat). length ss) seats ∙ keys_count c.args.topology.routers [] c.args.topology.parts
-    ∙ ap (λ (ps : List Part). length (host_keys ps)) (sym c.as_slice-parts.ensures)
+    ap (λ (ss : List Seat). length ss) seats ∙ hosts_count c.args.topology.routers [] c.args.topology.parts
+    ∙ ap (λ (ps : List Part). length (hosts_on ps)) (sym c.as_slice-parts.ensures)
 
 pub new-requires-clause-few : goal.new-requires-clause-few
 new-requires-clause-few c =
@@ -67,15 +67,15 @@ invariant_of-result c =
     c.deref.ensures.value ∙ c.in_ok-seats.ensures.seats ∙ ap (λ (rs : List Router). seats_after rs [] c.as_slice-parts.result.now) c.as_slice-routers.ensures.routers
     ∙ ap (λ (ps : List Part). seats_after c.args.topology.routers [] ps) c.as_slice-parts.ensures in
     let fresh = router_at_start c.args.topology.settings in
-    let each : length c.deref.result.now ≡ length (host_keys c.as_slice-parts.result.now) =
-    ap (λ (ss : List Seat). length ss) seats ∙ keys_count c.args.topology.routers [] c.args.topology.parts
-    ∙ ap (λ (ps : List Part). length (host_keys ps)) (sym c.as_slice-parts.ensures) in
+    let each : length c.deref.result.now ≡ length (hosts_on c.as_slice-parts.result.now) =
+    ap (λ (ss : List Seat). length ss) seats ∙ hosts_count c.args.topology.routers [] c.args.topology.parts
+    ∙ ap (λ (ps : List Part). length (hosts_on ps)) (sym c.as_slice-parts.ensures) in
     record {
       sound = subst IsSound (sym c.in_ok-new.ensures) c.requires;
       wired = subst (λ (topo : Topology). IsWiringOf topo c.new-2.result) (sym c.in_ok-new.ensures)
           (subst (λ (w : Wired). IsWiringOf c.args.topology w) (sym c.new-2.ensures) wiring);
       hosts =
-          new_seated c.args.topology.settings c.as_slice-routers.result.now c.deref.result.now (host_keys c.as_slice-parts.result.now) c.in_ok-hosts.hosts.items c.in_ok-hosts.ensures.count
+          new_seated c.args.topology.settings c.as_slice-routers.result.now c.deref.result.now (hosts_on c.as_slice-parts.result.now) c.in_ok-hosts.hosts.items c.in_ok-hosts.ensures.count
           (sym each) c.in_ok-hosts.ensures.new ∙ seats ∙ ap (λ (t : Topology). seats_of t) (sym c.in_ok-new.ensures);
       routers =
           ap (λ (ss : List RouterState). length ss) c.in_ok-checks.ensures ∙ replicate_count (length c.as_slice-routers.result.now) fresh
@@ -92,10 +92,10 @@ returns c =
     let seats : c.deref.result.now ≡ seats_of c.args.topology =
     c.deref.ensures.value ∙ c.in_ok-seats.ensures.seats ∙ ap (λ (rs : List Router). seats_after rs [] c.as_slice-parts.result.now) c.as_slice-routers.ensures.routers
     ∙ ap (λ (ps : List Part). seats_after c.args.topology.routers [] ps) c.as_slice-parts.ensures in
-    let hosts : AreNewHosts c.args.topology.settings c.args.topology.routers (seats_of c.args.topology) (host_keys c.args.topology.parts) c.in_ok-hosts.hosts.items =
-    subst (λ (ps : List Part). AreNewHosts c.args.topology.settings c.args.topology.routers (seats_of c.args.topology) (host_keys ps) c.in_ok-hosts.hosts.items) c.as_slice-parts.ensures
-    (subst (λ (rs : List Router). AreNewHosts c.args.topology.settings rs (seats_of c.args.topology) (host_keys c.as_slice-parts.result.now) c.in_ok-hosts.hosts.items) c.as_slice-routers.ensures.routers
-    (subst (λ (ss : List Seat). AreNewHosts c.args.topology.settings c.as_slice-routers.result.now ss (host_keys c.as_slice-parts.result.now) c.in_ok-hosts.hosts.items) seats c.in_ok-hosts.ensures.new)) in
+    let hosts : AreNewHosts c.args.topology.settings c.args.topology.routers (seats_of c.args.topology) (hosts_on c.args.topology.parts) c.in_ok-hosts.hosts.items =
+    subst (λ (ps : List Part). AreNewHosts c.args.topology.settings c.args.topology.routers (seats_of c.args.topology) (hosts_on ps) c.in_ok-hosts.hosts.items) c.as_slice-parts.ensures
+    (subst (λ (rs : List Router). AreNewHosts c.args.topology.settings rs (seats_of c.args.topology) (hosts_on c.as_slice-parts.result.now) c.in_ok-hosts.hosts.items) c.as_slice-routers.ensures.routers
+    (subst (λ (ss : List Seat). AreNewHosts c.args.topology.settings c.as_slice-routers.result.now ss (hosts_on c.as_slice-parts.result.now) c.in_ok-hosts.hosts.items) seats c.in_ok-hosts.ensures.new)) in
     record {
       topology = c.in_ok-new.ensures;
       links = ap (λ (w : Wired). w.links) c.new-2.ensures ∙ c.in_ok-seats.ensures.links ∙ ap (links_after []) c.as_slice-parts.ensures;

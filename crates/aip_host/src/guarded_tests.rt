@@ -1,0 +1,192 @@
+//! Guarded hosts of networks that two other implementations ran: what they withhold, obey, refuse and keep.
+ghost use Rattle.std.specs.Prelude.{◌<◌, ◌≤◌, ◌^◌};
+
+use crate::Host;
+use crate::host_tests::{HOST_A, HOST_B, address, digest_in, drop_in, host, seed};
+use aip_addr::{Bytes, KeyId};
+use aip_event::{Event, Reason};
+use aip_frame::is_frame;
+use aip_rules::Reaction;
+use std::alloc::Global;
+use std::test::Fail;
+
+const HOST_C: [u8; 20] = *b"\
+    \x01\x37\xb3\x8d\xc4\x9c\xf7\xd3\xe1\x50\x07\x5d\x96\xe2\xb7\x18\x16\x27\x49\x00";
+
+// The key identifier of host b.
+const KEY_OF_B: KeyId = KeyId {
+    bytes: *b"\x01\x80\x32\x6a\xee\x46\x27\xa6\x80\xa8\x2b\x2e\x03\xb5\x4a\x12\x77\xd7\xee",
+};
+
+// Host a, behind a guard with room for so many key identifiers.
+fn host_a(alloc: Global, room: u16) -> Result<Host, Fail>
+    requires some { 1 ≤ room }
+    requires few { room ≤ 256 }
+{
+    let tree = seed(alloc, 1)?;
+    host(alloc, b"a", HOST_A, Some(tree), 128, Some(room))
+}
+
+// The bytes that a reaction puts.
+fn put_in(reaction: Reaction) -> Result<Bytes, Fail> {
+    let Reaction { events: _, put } = reaction;
+    match put {
+        Some(flight) => Ok(flight.bytes),
+        None => Err(Fail::from("a flight")),
+    }
+}
+
+// The packet of this id that host a sends to another.
+fn sent(alloc: Global, host: &mut Host, to: [u8; 20], packet: u32) -> Result<Bytes, Fail> {
+    let reaction = host.send(alloc, 0, address(to), packet, &[0])?;
+    put_in(reaction)
+}
+
+// The shut-off by which a host names a frame, with its leaf 0.
+fn shut_off(
+    alloc: Global,
+    of: ([u8; 20], u8),
+    named: &Bytes,
+    now: u64,
+    ttl: u32,
+) -> Result<Bytes, Fail>
+    requires { now < 2 ^ 48 }
+{
+    let (eid, byte) = of;
+    let tree = seed(alloc, byte)?;
+    let mut host = host(alloc, b"s", eid, Some(tree), 128, Some(16))?;
+    if !host.has_key() || !is_frame(named.as_slice()) {
+        return Err(Fail::from("a key and a frame"));
+    }
+    let reaction = host.shut(alloc, now, named.as_slice(), ttl)?;
+    put_in(reaction)
+}
+
+// Until when a host obeys host b, or keeps that it does, if that is all that happened.
+fn until_in(reaction: &Reaction) -> Option<u64> {
+    match (reaction.events.as_slice(), &reaction.put) {
+        (
+            [
+                Event::Obeyed {
+                    host: _,
+                    sender,
+                    until,
+                },
+            ],
+            None,
+        ) if *sender == KEY_OF_B => Some(*until),
+        (
+            [
+                Event::Kept {
+                    host: _,
+                    sender,
+                    until,
+                },
+            ],
+            None,
+        ) if *sender == KEY_OF_B => Some(*until),
+        _ => None,
+    }
+}
+
+// The number of the reason for which a host refuses a shut-off, if that is all that happened.
+fn refusal_in(reaction: &Reaction) -> Option<u64> {
+    match (reaction.events.as_slice(), &reaction.put) {
+        ([Event::Heard { host: _, number }], None) => Some(*number),
+        _ => None,
+    }
+}
+
+// Whether a frame to host b is withheld, and nothing else happened.
+fn is_withheld(reaction: &Reaction) -> bool {
+    match (reaction.events.as_slice(), &reaction.put) {
+        ([Event::Withheld { host: _, to }], None) => *to == KEY_OF_B,
+        _ => false,
+    }
+}
+
+// Whether a halt at this call and with this byte falls while host a obeys host b until tick 10, and nothing else happened.
+fn is_halted(reaction: &Reaction, at: u64, left: u64) -> bool {
+    match (reaction.events.as_slice(), &reaction.put) {
+        (
+            [
+                Event::Halted {
+                    host: _,
+                    sender,
+                    until,
+                    call,
+                    byte,
+                },
+            ],
+            None,
+        ) => *sender == KEY_OF_B && *until == 10 && *call == at && *byte == left,
+        _ => false,
+    }
+}
+
+#[test]
+fn a_guard_withholds_until_a_shut_off_lapses(rt: HostRuntime) -> Result<(), Fail> {
+    let alloc = rt.alloc();
+    let mut host = host_a(alloc, 16)?;
+    let packet = sent(alloc, &mut host, HOST_B, 1)?;
+    let order = shut_off(alloc, (HOST_B, 2), &packet, 5, 10)?;
+    let reaction = host.arrive(alloc, 5, order.as_slice())?;
+    assert_eq!(rt; until_in(&reaction), Some(15));
+    let reaction = host.send(alloc, 14, address(HOST_B), 2, &[0])?;
+    assert!(rt; is_withheld(&reaction));
+    // Bytes that are no frame go, and so does a frame to another.
+    let reaction = host.raw(alloc, 14, &packet.as_slice()[..90])?;
+    assert!(rt; digest_in(&reaction).is_some());
+    let reaction = host.raw(alloc, 14, packet.as_slice())?;
+    assert!(rt; is_withheld(&reaction));
+    let reaction = host.send(alloc, 14, address(HOST_C), 2, &[0])?;
+    assert!(rt; digest_in(&reaction).is_some());
+    let reaction = host.send(alloc, 15, address(HOST_B), 2, &[0])?;
+    assert!(rt; digest_in(&reaction).is_some());
+    let reaction = host.arrive(alloc, 15, order.as_slice())?;
+    assert_eq!(rt; refusal_in(&reaction), Some(5));
+    Ok(())
+}
+
+#[test]
+fn a_full_guard_refuses_another(rt: HostRuntime) -> Result<(), Fail> {
+    let alloc = rt.alloc();
+    let mut host = host_a(alloc, 1)?;
+    let first = sent(alloc, &mut host, HOST_B, 1)?;
+    let second = sent(alloc, &mut host, HOST_C, 1)?;
+    let order = shut_off(alloc, (HOST_B, 2), &first, 0, 10)?;
+    let reaction = host.arrive(alloc, 0, order.as_slice())?;
+    assert_eq!(rt; until_in(&reaction), Some(10));
+    let order = shut_off(alloc, (HOST_C, 3), &second, 0, 10)?;
+    let reaction = host.arrive(alloc, 0, order.as_slice())?;
+    assert_eq!(rt; refusal_in(&reaction), Some(7));
+    Ok(())
+}
+
+// What host a says once it is up again, where a halt fell while it obeyed host b.
+fn said_past(alloc: Global, call: u8, byte: u8) -> Result<Reaction, Fail>
+    requires first { 1 ≤ call }
+    requires last { call ≤ 4 }
+{
+    let mut host = host_a(alloc, 16)?;
+    let packet = sent(alloc, &mut host, HOST_B, 1)?;
+    let order = shut_off(alloc, (HOST_B, 2), &packet, 0, 10)?;
+    host.halt(call, byte);
+    let halted = host.arrive(alloc, 0, order.as_slice())?;
+    let dropped = host.send(alloc, 0, address(HOST_B), 2, &[0])?;
+    if !is_halted(&halted, call.into(), byte.into()) || drop_in(&dropped) != Some(Reason::Down) {
+        return Err(Fail::from("the halt brings the host down"));
+    }
+    let said = host.restart(alloc, 0)?;
+    Ok(said)
+}
+
+#[test]
+fn a_restarted_host_tells_what_it_kept(rt: HostRuntime) -> Result<(), Fail> {
+    let alloc = rt.alloc();
+    assert_eq!(rt; until_in(&said_past(alloc, 3, 165)?), Some(10));
+    assert_eq!(rt; until_in(&said_past(alloc, 4, 165)?), Some(10));
+    assert!(rt; said_past(alloc, 2, 165)?.events.as_slice().is_empty());
+    assert!(rt; said_past(alloc, 4, 0)?.events.as_slice().is_empty());
+    Ok(())
+}
