@@ -1,5 +1,5 @@
 -- A run, from what its parts answer.
-use Rattle.std.proofs.Common.{◌≡◌, ◌≢◌, ◌≤◌, ◌⊎◌, IsSome, inl, inr, ℕ, ◌+◌, Bool, true, false, cond, List, [], ◌∷◌, ◌++◌, Option, Some, None, Ok, Err, refl, ap, sym, ◌∙◌, subst}
+use Rattle.std.proofs.Common.{◌≡◌, ◌≢◌, ◌≤◌, ◌⊎◌, IsSome, inl, inr, ℕ, ◌+◌, true, false, List, [], ◌∷◌, ◌++◌, Option, Some, None, Ok, Err, refl, ap, sym, ◌∙◌, subst}
 use Rattle.std.specs.Prelude.{IfSome, Result}
 use Rattle.std.proofs.lemmas.List.{append-nil}
 use Rattle.aip_text.specs.Lines.{lines_of}
@@ -7,8 +7,7 @@ use Rattle.aip_io.specs.Causes.{Rose}
 use Rattle.aip_io.specs.Sink.{and_then, TookPart}
 use Rattle.aip_topo.specs.declared.topology.Topology.{Topology}
 use Rattle.aip_topo.specs.Reading.{RefusedLine, topology_of}
-use Rattle.aip_rules.specs.Texts.{Ran, ran, ran_from, ran_over, end_of, output_of, text_of_run, is_built_topology}
-use Rattle.aip_rules.specs.Texts as texts
+use Rattle.aip_rules.specs.Texts.{Ran, ran, ran_from, ran_over, end_of, output_of, text_of_run}
 use Rattle.aip_rules.proofs.Lines.{of_lines}
 use Rattle.aip_core.specs.Kept.{Kept}
 use Rattle.aip_core.specs.StandsFor.{StandsFor}
@@ -42,10 +41,9 @@ and_nothing (Some xs) = ap Some (append-nil xs)
 
 -- ## A whole run
 
--- over a topology that is built the run is that of the schedule
-ran_is : (r : Result Topology RefusedLine) (topo : Topology) (schedule : List ℕ) → r ≡ Ok topo → is_built_topology topo ≡ true → ran_over r schedule ≡ ran topo schedule
-ran_is r topo schedule given built =
-    ap (λ x. ran_over x schedule) given ∙ ap (λ b. cond b (ran topo schedule) (record { trace = []; ending = texts.Topology_unbuilt })) built
+-- over a topology the run is that of the schedule
+ran_is : (r : Result Topology RefusedLine) (topo : Topology) (schedule : List ℕ) → r ≡ Ok topo → ran_over r schedule ≡ ran topo schedule
+ran_is r topo schedule given = ap (λ x. ran_over x schedule) given
 
 -- what was played is the run of the two texts
 pub wrote : (t s mid : Option (List ℕ)) (core : Kept) (end : RunEnd) (kept : Option Kept) (old new : Option (List ℕ)) → mid ≡ s → IfSome t (λ told. IsOpened told core)
@@ -55,7 +53,7 @@ wrote None s mid core end kept old new same opened played = tt
 wrote (Some told) None mid core end kept old new same opened played = tt
 wrote (Some told) (Some lines) mid core end kept old new same opened played =
     let ended = subst (λ o. IfSome o (λ lines. (topo : Topology) → StandsFor topo [] core → HasEnded topo (ran topo lines) old new end kept)) same played in
-    subst (λ (r : Ran). Writes (run_end_of r.ending) (text_of_run r) end old new) (sym (ran_is (topology_of told) opened.topo lines opened.given opened.built))
+    subst (λ (r : Ran). Writes (run_end_of r.ending) (text_of_run r) end old new) (sym (ran_is (topology_of told) opened.topo lines opened.given))
     (ended opened.topo opened.stands).writes
 
 -- the core that comes back stands for its trace
@@ -70,14 +68,14 @@ stood (Some told) (Some lines) mid core end (Some last) old new same opened play
     record { topo = opened.topo; given = opened.given; stands = (ended opened.topo opened.stands).stands; lines = of_lines opened.topo lines }
 
 -- a topology that was opened ends no run by itself
-ends_none : (r : Result Topology RefusedLine) (topo : Topology) → r ≡ Ok topo → is_built_topology topo ≡ true → end_over r ≡ None
-ends_none r topo given built = ap end_over given ∙ ap (λ b. cond b None (Some run_end.Unbuilt)) built
+ends_none : (r : Result Topology RefusedLine) (topo : Topology) → r ≡ Ok topo → end_over r ≡ None
+ends_none r topo given = ap end_over given
 
 pub judges_opened : (t : Option (List ℕ)) (core : Kept) (unread unwritten : Type 0) (end : RunEnd) → IfSome t (λ told. IsOpened told core) → is_topology_refused end ≡ false
     → IfSome t (λ told. Judges told unread unwritten end)
 judges_opened None core unread unwritten end opened passed = tt
 judges_opened (Some told) core unread unwritten end opened passed = record {
-  comes = subst (λ o. IfSome o (λ expected. unwritten × IsOrUnread expected unread end)) (sym (ends_none (topology_of told) opened.topo opened.given opened.built)) tt;
+  comes = subst (λ o. IfSome o (λ expected. unwritten × IsOrUnread expected unread end)) (sym (ends_none (topology_of told) opened.topo opened.given)) tt;
   only = λ refused. absurd (differ (sym refused ∙ passed));
 }
   where
@@ -86,12 +84,7 @@ judges_opened (Some told) core unread unwritten end opened passed = record {
 
 -- a run that ends every run over the topology
 decided_by : (r : Result Topology RefusedLine) (lines : List ℕ) (end : RunEnd) → end_over r ≡ Some end → (run_end_of (ran_over r lines).ending ≡ end) × (text_of_run (ran_over r lines) ≡ [])
-decided_by (Ok topo) lines end e = built_or_not (is_built_topology topo) e
-  where
-    built_or_not : (b : Bool) → cond b None (Some run_end.Unbuilt) ≡ Some end
-        → (run_end_of (cond b (ran topo lines) (record { trace = []; ending = texts.Topology_unbuilt })).ending ≡ end) × (text_of_run (cond b (ran topo lines) (record { trace = []; ending = texts.Topology_unbuilt })) ≡ [])
-    built_or_not true e = absurd (cc)
-    built_or_not false e = (cc, refl)
+decided_by (Ok topo) lines end e = absurd cc
 decided_by (Err refused) lines end e = (cc, refl)
 
 -- nothing was taken, which is a first part of anything
@@ -152,10 +145,10 @@ judges_unopened (Some told) unread unwritten end still rose fine (inr by) = reco
 }
 
 -- a core at its start over what a text gives
-pub opened_at : (told : Option (List ℕ)) (topo : Topology) (core : Kept) → IfSome told (λ text. topology_of text ≡ Ok topo) → is_built_topology topo ≡ true → StandsFor topo [] core
+pub opened_at : (told : Option (List ℕ)) (topo : Topology) (core : Kept) → IfSome told (λ text. topology_of text ≡ Ok topo) → StandsFor topo [] core
     → IfSome told (λ text. IsOpened text core)
-opened_at None topo core given built stands = tt
-opened_at (Some text) topo core given built stands = record { topo = topo; given = given; built = built; stands = stands }
+opened_at None topo core given stands = tt
+opened_at (Some text) topo core given stands = record { topo = topo; given = given; stands = stands }
 
 -- a turn that goes on leads from what has come to what has come then
 pub went_on : (told now : Option (List ℕ)) (first core after : Kept) (number : ℕ) (lines next : List ℕ → List (List ℕ)) (start taken took : Option (List ℕ)) → now ≡ told

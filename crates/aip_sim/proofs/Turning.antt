@@ -116,7 +116,6 @@ pub not_cut_short : (e : Ending) → IsCutShort (run_end_of e) → ⊥
 not_cut_short texts.Done h = h
 not_cut_short (texts.Topology_refused line f) h = h
 not_cut_short (texts.Schedule_refused line f) h = h
-not_cut_short texts.Topology_unbuilt h = h
 not_cut_short (texts.Input_unbuilt line) h = h
 
 -- a run that is cut short, with a first part of its text taken

@@ -12,7 +12,6 @@ abbrev pub run_end_of : Ending → RunEnd
 run_end_of texts.Done = run_end.Done
 run_end_of (texts.Topology_refused line f) = run_end.Topology line f
 run_end_of (texts.Schedule_refused line f) = run_end.Schedule line f
-run_end_of texts.Topology_unbuilt = run_end.Unbuilt
 run_end_of (texts.Input_unbuilt line) = run_end.Unbuilt
 
 -- the answer where no topology could be read

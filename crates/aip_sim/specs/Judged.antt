@@ -1,15 +1,14 @@
 -- What the text of a topology by itself says of the answer of a run.
-use Rattle.std.specs.Prelude.{◌≡◌, ◌⊎◌, ℕ, true, List, Option, Some, None, IfSome, Result, Ok, Err, if◌then◌else◌}
+use Rattle.std.specs.Prelude.{◌≡◌, ◌⊎◌, ℕ, true, List, Option, Some, None, IfSome, Result, Ok, Err}
 use Rattle.aip_topo.specs.declared.topology.Topology.{Topology}
 use Rattle.aip_topo.specs.Reading.{RefusedLine, topology_of}
-use Rattle.aip_rules.specs.Texts.{is_built_topology}
 use Rattle.aip_sim.specs.declared.ends.RunEnd.{RunEnd}
 use Rattle.aip_sim.specs.declared.ends.RunEnd.TheVariants as run_end
 use Rattle.aip_sim.specs.Ends.{IsCutShort, is_topology_refused}
 
--- what ends every run over what a topology text gives: its first refused line, or that its kind isn't built
+-- what ends every run over what a topology text gives: its first refused line
 abbrev pub end_over : Result Topology RefusedLine → Option RunEnd
-end_over (Ok topo) = if is_built_topology topo then None else Some run_end.Unbuilt
+end_over (Ok topo) = None
 end_over (Err refused) = Some (run_end.Topology refused.line refused.fault)
 
 -- the same by the text

@@ -7,7 +7,7 @@ use Rattle.aip_topo.specs.Reading.{topology_of}
 use Rattle.aip_rules.specs.declared.Entry.{Entry}
 use Rattle.aip_rules.specs.declared.Entry.TheVariants.{Happened}
 use Rattle.aip_rules.specs.declared.StepFault.{StepFault}
-use Rattle.aip_rules.specs.Texts.{Ran, Schedule_refused, ran_from, text_of, text_of_run, line_of, is_built_topology}
+use Rattle.aip_rules.specs.Texts.{Ran, Schedule_refused, ran_from, text_of, text_of_run, line_of}
 use Rattle.aip_core.specs.Kept.{Kept}
 use Rattle.aip_core.specs.StandsFor.{StandsFor}
 use Rattle.aip_sim.specs.declared.ends.RunEnd.{RunEnd}
@@ -24,12 +24,10 @@ events_text events = flat_map (λ event. line_of (Happened event)) events
 abbrev pub step_text : List ℕ → List Event → List ℕ
 step_text line events = (62 ∷ (32 ∷ (line ++ 10 ∷ []))) ++ events_text events
 
--- A core at the start of a run: it stands for the empty trace of the topology that the text gives, and the topology is of
--- a kind that is built.
+-- a core at the start of a run: it stands for the empty trace of the topology that the text gives
 pub record IsOpened (text : List ℕ) (core : Kept) : Type 0 where
   pub topo : Topology
   pub given : topology_of text ≡ Ok topo
-  pub built : is_built_topology topo ≡ true
   pub stands : StandsFor topo [] core
 
 -- The run has come to these lines, the first of which has this number: the core stands for a trace, from which the run of

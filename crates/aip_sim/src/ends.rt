@@ -26,7 +26,7 @@ pub enum RunEnd {
         /// The first fault that applies to it.
         fault: StepFault,
     },
-    /// The topology, or an input of the schedule, is of a kind that isn't built yet. What was taken is the text of the
+    /// An input of the schedule is of a kind that isn't built yet. What was taken is the text of the
     /// inputs before it.
     Unbuilt,
     /// There was no memory.

@@ -13,7 +13,7 @@ ghost use Rattle.aip_sim.specs.Judged.{IsUnopened, Judges};
 ghost use Rattle.aip_sim.specs.Turns.{HasEnded, IsOpened};
 
 use crate::ends::RunEnd;
-use crate::topologies::{is_built, read_topology};
+use crate::topologies::read_topology;
 use crate::turns::{Turn, take_line};
 use aip_core::Core;
 use aip_io::{Lines, Shelf, Sink};
@@ -40,9 +40,6 @@ fn open<S: Shelf>(alloc: Global, shelf: &mut S, name: &str) -> Result<Opened, Ru
         (S.text shelf.old) (S.faults shelf.old) (S.faults shelf.new) }
 {
     let topology = read_topology(alloc, shelf, name)?;
-    if !is_built(&topology) {
-        return Err(RunEnd::Unbuilt);
-    }
     let lines = Lines::new(alloc, LONGEST_LINE)?;
     let core = Core::new(alloc, topology)?;
     Ok(Opened { core, lines })
@@ -97,7 +94,7 @@ pub fn run<S: Shelf, K: Sink>(
     // fault or want of memory leaves a first part of it.
     ensures writes { IfSome (S.text shelf.old topo.now) (λ topology. IfSome (S.text shelf.old sched.now) (λ schedule.
         Writes (run_end_of (end_of topology schedule)) (output_of topology schedule) result.0 (K.taken out.old) (K.taken out.new))) }
-    // A topology that is refused, or of a kind that isn't built, is the answer whatever the schedule's file does.
+    // A topology that is refused is the answer whatever the schedule's file does.
     ensures topology { IfSome (S.text shelf.old topo.now) (λ told.
         Judges told (Rose (S.faults shelf.old topo.now) (S.faults shelf.new topo.now)) (out.new ≡ out.old) result.0) }
     ensures quiet { is_topology_refused result.0 ≡ true → out.new ≡ out.old }

@@ -2,13 +2,11 @@
 ghost use Rattle.std.specs.Prelude.{◌≡◌, ◌≢◌, ℕ, List, take, Err, IfSome, IfOk, IsErrOf};
 ghost use Rattle.aip_topo.specs.Reading.{topology_of};
 ghost use Rattle.aip_topo.specs.Sound.{IsSound};
-ghost use Rattle.aip_rules.specs.Texts.{is_plain, is_built_topology};
-ghost use Rattle.std.specs.List.{list_all};
 ghost use Rattle.aip_sim.specs.Causes.{ReadsOnly};
 ghost use Rattle.aip_sim.specs.Topologies.{IsReadOf};
 
 use aip_io::{ReadEnd, Shelf, read_all};
-use aip_topo::{MOST_READ, Part, TopoEnd, TopoFault, Topology};
+use aip_topo::{MOST_READ, TopoEnd, TopoFault, Topology};
 use std::alloc::Global;
 
 /// Why no topology could be read.
@@ -82,26 +80,4 @@ pub fn read_topology<S: Shelf>(
 {
     let text = read_all(alloc, shelf, name, MOST_READ)?;
     topology_in(alloc, &text)
-}
-
-fn is_plain(part: &Part) -> bool
-    ensures { result ≡ is_plain part.now }
-{
-    match part {
-        Part::Host(host) => !host.guarded,
-        Part::Link(_) => true,
-    }
-}
-
-fn are_plain(parts: &[Part]) -> bool
-    ensures { result ≡ list_all is_plain parts.now }
-{
-    parts.iter().all(|part| is_plain(part))
-}
-
-/// Whether runs are built over a topology of this kind.
-pub fn is_built(topology: &Topology) -> bool
-    ensures { result ≡ is_built_topology topology.now }
-{
-    are_plain(topology.parts.as_slice())
 }

@@ -47,7 +47,7 @@ pub enum Status {
         /// The first fault that applies to it.
         fault: StepFault,
     },
-    /// The topology, or an input of the schedule, is of a kind that isn't built yet. What was taken is the text of the
+    /// An input of the schedule is of a kind that isn't built yet. What was taken is the text of the
     /// inputs before it.
     Unbuilt,
     /// The disk failed.

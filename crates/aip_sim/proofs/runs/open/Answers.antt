@@ -1,11 +1,11 @@
-use Rattle.std.proofs.Common.{◌∙◌, sym, refl}
+use Rattle.std.proofs.Common.{refl}
 use Rattle.aip_sim.proofs.Running.{opened_at, reads_on}
 use Rattle.aip_sim.proofs.runs.open.Goals as goal
 
 pub returns-clause-core : goal.returns-clause-core
 returns-clause-core g c =
     opened_at (g.S.Shelf.text c.args.shelf.now c.args.name.now) c.in_ok-topology.topology c.in_ok-core.core c.in_ok-topology.ensures.read
-    (sym c.is_built.ensures ∙ c.if-not-is_built.false) c.in_ok-core.ensures
+    c.in_ok-core.ensures
 
 pub returns-clause-counts : goal.returns-clause-counts
 returns-clause-counts g c =
