@@ -147,19 +147,22 @@ does_in : (kept next : Kept) (input : Input) (outcome : Result Reaction StepFaul
     → host_touched kept.topo kept.flights input ≡ Some p
     → Does outcome (λ reaction old new. MovesAt HostState (Some p) (HostMoves kept.ticks input reaction) old new) kept.hosts result next.hosts
     → Does outcome (λ reaction old new. Moved old input reaction new) kept result next
-does_in kept next input outcome p (Ok reaction) is touched does = (does.0, record {
-  topo = ap (λ (k : Kept). k.topo) is;
-  links = ap (λ (k : Kept). k.links) is;
-  flights = ap (λ (k : Kept). k.flights) is;
-  records = ap (λ (k : Kept). k.records) is ∙ host_publishes_nothing kept.topo kept.flights input p kept.records touched;
-  ticks = ap (λ (k : Kept). k.ticks) is;
-  inputs = ap (λ (k : Kept). k.inputs) is;
-  hosts = subst (λ (o : Option ℕ). MovesAt HostState o (HostMoves kept.ticks input reaction) kept.hosts next.hosts) (sym touched) does.1;
-  routers = subst (λ (rs : List RouterState). MovesAt RouterState (router_touched kept.topo kept.flights input) (RouterMoves kept (router_touched kept.topo kept.flights input) input) kept.routers rs)
-      (sym (ap (λ (k : Kept). k.routers) is))
-      (none_moves RouterState (router_touched kept.topo kept.flights input) (RouterMoves kept (router_touched kept.topo kept.flights input) input) kept.routers
-      (host_or_router kept.topo kept.flights input p touched));
-})
+does_in kept next input outcome p (Ok reaction) is touched does = (
+  does.0,
+  record {
+    topo = ap (λ (k : Kept). k.topo) is;
+    links = ap (λ (k : Kept). k.links) is;
+    flights = ap (λ (k : Kept). k.flights) is;
+    records = ap (λ (k : Kept). k.records) is ∙ host_publishes_nothing kept.topo kept.flights input p kept.records touched;
+    ticks = ap (λ (k : Kept). k.ticks) is;
+    inputs = ap (λ (k : Kept). k.inputs) is;
+    hosts = subst (λ (o : Option ℕ). MovesAt HostState o (HostMoves kept.ticks input reaction) kept.hosts next.hosts) (sym touched) does.1;
+    routers = subst (λ (rs : List RouterState). MovesAt RouterState (router_touched kept.topo kept.flights input) (RouterMoves kept (router_touched kept.topo kept.flights input) input) kept.routers rs)
+        (sym (ap (λ (k : Kept). k.routers) is))
+        (none_moves RouterState (router_touched kept.topo kept.flights input) (RouterMoves kept (router_touched kept.topo kept.flights input) input) kept.routers
+        (host_or_router kept.topo kept.flights input p touched));
+  },
+)
 does_in kept next input outcome p (Err (no.Fault f)) is touched does = (does.0, is ∙ ap (λ (hs : List HostState). record kept { hosts = hs }) does.1)
 does_in kept next input outcome p (Err no.Memory) is touched does = tt
 
@@ -256,8 +259,7 @@ crosses kept next number place port flight state reaction name is put goes named
     ap (λ (o : Option Flight). option_and_then (λ n. seat_place (seats_of kept.topo) n) (option_and_then (λ f. host_at f.target) o)) put
     ∙ ap (λ (t : Target). option_and_then (λ n. seat_place (seats_of kept.topo) n) (host_at t)) goes in
     let after : (s : RouterState) → after_place kept.topo kept.links kept.records s kept.ticks place (slice_get kept.topo.routers place) port flight.bytes ≡ after_flight kept place s (slice_get kept.flights number) =
-    λ s. sym (ap (λ (o : Option Flight). after_flight kept place s o) put ∙ ap (λ (t : Target). after_target kept place s t flight.bytes) goes) in
-    (
+    λ s. sym (ap (λ (o : Option Flight). after_flight kept place s o) put ∙ ap (λ (t : Target). after_target kept place s t flight.bytes) goes) in (
       reached ∙ ap given (sym reacts),
       record {
         topo = ap (λ (k : Kept). k.topo) is;
@@ -289,17 +291,17 @@ crosses_in_core inside kept next number place port flight reaction same is count
     subst (λ (k : Kept). length k.routers ≡ length k.topo.routers → router_touched k.topo k.flights (Deliver number) ≡ Some place → GoesToPort (slice_get k.flights number) port
     → (kept_outcome k (Deliver number) ≡ Ok reaction) × Moved k (Deliver number) reaction next) same
     (λ counts reached goes. here counts reached goes) count touched port_is where
-  here : length inside.routers ≡ length inside.topo.routers → router_touched inside.topo inside.flights (Deliver number) ≡ Some place → GoesToPort (slice_get inside.flights number) port
-      → (kept_outcome inside (Deliver number) ≡ Ok reaction) × Moved inside (Deliver number) reaction next
-  here counts reached goes =
-      let goal_port : option_map (λ (f : Flight). f.target) (Some flight) ≡ Some (target.Port goes.0 port) = ap (λ (o : Option Flight). option_map (λ f. f.target) o) (sym put) ∙ goes.1 in
-      let to : flight.target ≡ target.Port goes.0 port = cc in
-      let named : router_named inside.topo.routers goes.0 ≡ Some place =
-      sym (ap (λ (o : Option Flight). option_and_then (λ n. router_named inside.topo.routers n) (option_and_then (λ f. router_at f.target) o)) put
-      ∙ ap (λ (t : Target). option_and_then (λ n. router_named inside.topo.routers n) (router_at t)) to) ∙ reached in
-      let self = position_passes (λ (r : Router). bytes_eq r.name goes.0) inside.topo.routers place named in
-      let state = beside inside.topo.routers inside.routers place self.item counts self.there in
-      crosses inside next number place port flight state.0 reaction goes.0 is put to named state.1 (reacts state.0 state.1) moves
+      here : length inside.routers ≡ length inside.topo.routers → router_touched inside.topo inside.flights (Deliver number) ≡ Some place → GoesToPort (slice_get inside.flights number) port
+          → (kept_outcome inside (Deliver number) ≡ Ok reaction) × Moved inside (Deliver number) reaction next
+      here counts reached goes =
+          let goal_port : option_map (λ (f : Flight). f.target) (Some flight) ≡ Some (target.Port goes.0 port) = ap (λ (o : Option Flight). option_map (λ f. f.target) o) (sym put) ∙ goes.1 in
+          let to : flight.target ≡ target.Port goes.0 port = cc in
+          let named : router_named inside.topo.routers goes.0 ≡ Some place =
+          sym (ap (λ (o : Option Flight). option_and_then (λ n. router_named inside.topo.routers n) (option_and_then (λ f. router_at f.target) o)) put
+          ∙ ap (λ (t : Target). option_and_then (λ n. router_named inside.topo.routers n) (router_at t)) to) ∙ reached in
+          let self = position_passes (λ (r : Router). bytes_eq r.name goes.0) inside.topo.routers place named in
+          let state = beside inside.topo.routers inside.routers place self.item counts self.there in
+          crosses inside next number place port flight state.0 reaction goes.0 is put to named state.1 (reacts state.0 state.1) moves
 
 -- ---- by the input
 

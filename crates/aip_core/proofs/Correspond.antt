@@ -132,12 +132,11 @@ step_here topo tr hosts routers input after events sound h r step =
     let given : outcome_of topo tr input ≡ Ok step.reaction = sym (outcome_is topo tr hosts routers input h r) ∙ kept_given in
     let told : reaction_of topo tr input ≡ Ok step.reaction = sym (reaction_is topo tr hosts routers input h r) ∙ step.given in
     let calm = calm_of (outcome_of topo tr input) step.reaction (outcome_modest topo tr input sound) given in
-    let same : events_on tr step.reaction ≡ events = sym step.events in
-    (
+    let same : events_on tr step.reaction ≡ events = sym step.events in (
       ap (λ (outcome : Result Reaction StepFault). events_of tr outcome) told ∙ ap (λ (es : List Event). Ok es) same,
       subst (λ (k : Kept). StandsFor topo (after_step tr input events) k) (sym step.after)
-      (subst (λ (es : List Event). StandsFor topo (after_step tr input es) (kept_after step.core input step.reaction)) same
-      (stands_after topo tr hosts routers input step.reaction step.core sound h r kept_given given calm step.moved)),
+          (subst (λ (es : List Event). StandsFor topo (after_step tr input es) (kept_after step.core input step.reaction)) same
+          (stands_after topo tr hosts routers input step.reaction step.core sound h r kept_given given calm step.moved)),
     )
 
 -- a step by what is kept is the rules' step, for every trace that is stood for

@@ -62,8 +62,8 @@ absent_first text [] rest absent = refl
 absent_first text (t ∷ first) rest absent =
     let parts = neither (bytes_eq t text) (has_text text (first ++ rest)) absent in
     both_false (bytes_eq t text) (has_text text first) parts.0 (absent_first text first rest parts.1) where
-  both_false : (b c : Bool) → b ≡ false → c ≡ false → (b || c) ≡ false
-  both_false b c p q = ap (λ x. x || c) p ∙ q
+      both_false : (b c : Bool) → b ≡ false → c ≡ false → (b || c) ≡ false
+      both_false b c p q = ap (λ x. x || c) p ∙ q
 
 earlier : (first rest : List (List ℕ)) → AreDistinct (first ++ rest) → AreDistinct first
 earlier [] rest distinct = tt

@@ -35,7 +35,8 @@ use Rattle.aip_rules.specs.State.{now_of, flight_at, frame_in, delivered_frame}
 use Rattle.aip_rules.specs.Nodes.{is_same_address, neighbour_at, target_at}
 use Rattle.aip_rules.specs.Routes.{port_over}
 use Rattle.aip_rules.specs.Reaction.{dropped, numbered}
-use Rattle.aip_rules.specs.Router.{Arrival, Verdict, key_after, one_hop_less, forwarded, asked, of_host, of_border, by_verdict, trusts, is_challenge, is_response, proved, refused}
+use Rattle.aip_rules.specs.Records.{trusts}
+use Rattle.aip_rules.specs.Router.{Arrival, Verdict, key_after, one_hop_less, forwarded, asked, of_host, of_border, by_verdict, is_challenge, is_response, proved, refused}
 use Rattle.aip_rules.specs.Step.{with_events, after_step}
 use Rattle.aip_core.specs.RouterMachine.{RouterState, kept_verdict, kept_checked, kept_passed, kept_wild, kept_responded, kept_answer, kept_own, kept_frame, kept_taken, kept_at_router, after_verdict, after_checked, after_passed, after_response, after_own, after_frame, after_taken, after_arrival}
 use Rattle.aip_core.specs.RouterStands.{RouterStands}

@@ -282,12 +282,7 @@ impl Core {
     }
 
     // What comes of a restart, at the host or the router of this name.
-    fn restart(
-        &mut self,
-        alloc: Global,
-        node: &Name,
-        input: &Input,
-    ) -> Result<Reaction, NoReaction>
+    fn restart(&mut self, alloc: Global, node: &Name, input: &Input) -> Result<Reaction, NoReaction>
         requires { input.now ≡ Restart node.now }
         ensures { Does (kept_outcome self.old input.now) (λ reaction old new. Moved old input.now reaction new) self.old result self.new }
     {
@@ -353,12 +348,7 @@ impl Core {
     }
 
     // A flight is delivered, if it was put.
-    fn deliver(
-        &mut self,
-        alloc: Global,
-        flight: u64,
-        input: &Input,
-    ) -> Result<Reaction, NoReaction>
+    fn deliver(&mut self, alloc: Global, flight: u64, input: &Input) -> Result<Reaction, NoReaction>
         requires { input.now ≡ Deliver flight }
         ensures { Does (kept_outcome self.old input.now) (λ reaction old new. Moved old input.now reaction new) self.old result self.new }
     {

@@ -236,8 +236,19 @@ pub drop_follows : (now : ℕ) (old : HostState) (why : Reason) (reaction : Reac
 drop_follows now old why reaction is =
     subst (λ r. Follows now old r old) (sym is)
     (record {
-      seat = refl; towards = refl; room = refl; key = refl; guarded = refl; quiet = (refl, tt); log = refl;
-      next = sym (zero-max (next_in old.key)); stop = refl; halt = refl; down = refl; told = λ to time later. refl; untold = λ plain. refl;
+      seat = refl;
+      towards = refl;
+      room = refl;
+      key = refl;
+      guarded = refl;
+      quiet = (refl, tt);
+      log = refl;
+      next = sym (zero-max (next_in old.key));
+      stop = refl;
+      halt = refl;
+      down = refl;
+      told = λ to time later. refl;
+      untold = λ plain. refl;
     })
 
 -- ---- what the rules say
