@@ -52,20 +52,23 @@ event_of_none kept bytes said number read is answer =
 publishes_here : (kept next : Kept) (bytes : List ℕ) (result : Result Reaction NoReaction) → next ≡ record kept { records = next.records }
     → Does (kept_published kept.records bytes) (λ reaction old new. new ≡ after old bytes) kept.records result next.records
     → Does (kept_outcome kept (Publish bytes)) (λ reaction old new. Moved old (Publish bytes) reaction new) kept result next
-publishes_here kept next bytes (Ok reaction) is does = (does.0, record {
-  topo = ap (λ (k : Kept). k.topo) is;
-  links = ap (λ (k : Kept). k.links) is;
-  flights = ap (λ (k : Kept). k.flights) is;
-  records = does.1;
-  ticks = ap (λ (k : Kept). k.ticks) is;
-  inputs = ap (λ (k : Kept). k.inputs) is;
-  hosts = subst (λ (hs : List HostState). MovesAt HostState None (HostMoves kept.ticks (Publish bytes) reaction) kept.hosts hs)
-      (sym (ap (λ (k : Kept). k.hosts) is))
-      (none_moves HostState None (HostMoves kept.ticks (Publish bytes) reaction) kept.hosts refl);
-  routers = subst (λ (rs : List RouterState). MovesAt RouterState None (RouterMoves kept None (Publish bytes)) kept.routers rs)
-      (sym (ap (λ (k : Kept). k.routers) is))
-      (none_moves RouterState None (RouterMoves kept None (Publish bytes)) kept.routers refl);
-})
+publishes_here kept next bytes (Ok reaction) is does = (
+  does.0,
+  record {
+    topo = ap (λ (k : Kept). k.topo) is;
+    links = ap (λ (k : Kept). k.links) is;
+    flights = ap (λ (k : Kept). k.flights) is;
+    records = does.1;
+    ticks = ap (λ (k : Kept). k.ticks) is;
+    inputs = ap (λ (k : Kept). k.inputs) is;
+    hosts = subst (λ (hs : List HostState). MovesAt HostState None (HostMoves kept.ticks (Publish bytes) reaction) kept.hosts hs)
+        (sym (ap (λ (k : Kept). k.hosts) is))
+        (none_moves HostState None (HostMoves kept.ticks (Publish bytes) reaction) kept.hosts refl);
+    routers = subst (λ (rs : List RouterState). MovesAt RouterState None (RouterMoves kept None (Publish bytes)) kept.routers rs)
+        (sym (ap (λ (k : Kept). k.routers) is))
+        (none_moves RouterState None (RouterMoves kept None (Publish bytes)) kept.routers refl);
+  },
+)
 publishes_here kept next bytes (Err (no.Fault f)) is does = (does.0, is ∙ ap (λ (rs : List Record). record kept { records = rs }) does.1)
 publishes_here kept next bytes (Err no.Memory) is does = tt
 

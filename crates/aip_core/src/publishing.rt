@@ -61,11 +61,7 @@ fn event_of(bytes: &[u8], said: Published) -> Event
 }
 
 /// Publishes bytes, if they aren't too many: they are kept as a record, or the reason why not is told.
-pub fn publish(
-    alloc: Global,
-    registry: &mut Registry,
-    bytes: &[u8],
-) -> Result<Reaction, NoReaction>
+pub fn publish(alloc: Global, registry: &mut Registry, bytes: &[u8]) -> Result<Reaction, NoReaction>
     ensures { Does (kept_published registry.old bytes.now) (λ reaction old new. new ≡ after old bytes.now) registry.old result registry.new }
 {
     if bytes.len() > MOST_BYTES {

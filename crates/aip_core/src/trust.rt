@@ -38,13 +38,7 @@ pub fn trusts(
     ensures { result ≡ trusts directory.now registry.now now own.now other marked }
 {
     match directory.routers().get(other as usize) {
-        Some(router) => trusts_domain(
-            registry,
-            now,
-            &own.address.ad,
-            &router.address.ad,
-            marked,
-        ),
+        Some(router) => trusts_domain(registry, now, &own.address.ad, &router.address.ad, marked),
         None => false,
     }
 }
