@@ -54,7 +54,7 @@ fn sender(sources: u16, k: u32) -> u32
     match k % 4 {
         0 => round,
         1 => u32::from(sources) - 1 - round,
-        _ => 65536 + k,
+        _ => k | 0x0001_0000,
     }
 }
 
@@ -82,14 +82,20 @@ fn run(rt: &(impl Print + Alloc<A = Global>), sources: u16, packets: u32) -> io:
 }
 
 fn main(rt: HostRuntime) -> io::Result<()> {
-    let mut sources = 64;
-    let mut packets = 1000;
+    let mut small = false;
+    let mut limits = false;
     for word in env::args(&rt)? {
         match word.as_str() {
-            "small" => packets = 100_000,
-            "limits" => (sources, packets) = (4096, 100_000),
+            "small" => small = true,
+            "limits" => limits = true,
             _ => {}
         }
     }
-    run(&rt, sources, packets)
+    if limits {
+        return run(&rt, 4096, 100_000);
+    }
+    if small {
+        return run(&rt, 64, 100_000);
+    }
+    run(&rt, 64, 1000)
 }
