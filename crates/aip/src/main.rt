@@ -57,6 +57,10 @@ fn tell(rt: &impl Eprint, status: Status) -> io::Result<()> {
             let word = word_of(fault);
             eprintln!(rt; "aip: lease {word}")
         }
+        Status::Record { line, fault } => {
+            let number = fault.number();
+            eprintln!(rt; "aip: record line {line} fault {number}")
+        }
         Status::Memory => eprintln!(rt; "aip: out of memory"),
     }
 }

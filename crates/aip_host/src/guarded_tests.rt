@@ -2,7 +2,7 @@
 ghost use Rattle.std.specs.Prelude.{◌<◌, ◌≤◌, ◌^◌};
 
 use crate::Host;
-use crate::host_tests::{HOST_A, HOST_B, address, digest_in, drop_in, host, seed};
+use crate::host_tests::{HOST_A, HOST_B, PACKET, address, digest_in, drop_in, host, seed};
 use aip_addr::{Bytes, KeyId};
 use aip_event::{Event, Reason};
 use aip_frame::is_frame;
@@ -124,25 +124,55 @@ fn is_halted(reaction: &Reaction, at: u64, left: u64) -> bool {
     }
 }
 
-#[test]
-fn a_guard_withholds_until_a_shut_off_lapses(rt: HostRuntime) -> Result<(), Fail> {
-    let alloc = rt.alloc();
+// Host a, which obeys host b until tick 15.
+fn silenced(alloc: Global) -> Result<Host, Fail> {
     let mut host = host_a(alloc, 16)?;
     let packet = sent(alloc, &mut host, HOST_B, 1)?;
     let order = shut_off(alloc, (HOST_B, 2), &packet, 5, 10)?;
     let reaction = host.arrive(alloc, 5, order.as_slice())?;
-    assert_eq!(rt; until_in(&reaction), Some(15));
-    let reaction = host.send(alloc, 14, address(HOST_B), 2, &[0])?;
+    if until_in(&reaction) != Some(15) {
+        return Err(Fail::from("host b is obeyed until tick 15"));
+    }
+    Ok(host)
+}
+
+// Whether host a is silent at a tick where it is to send a packet to host b.
+fn is_silent(alloc: Global, host: &mut Host, now: u64) -> Result<bool, Fail>
+    requires { now < 2 ^ 48 }
+{
+    let reaction = host.send(alloc, now, address(HOST_B), 2, &[0])?;
+    Ok(is_withheld(&reaction))
+}
+
+#[test]
+fn a_guard_withholds_until_a_shut_off_lapses(rt: HostRuntime) -> Result<(), Fail> {
+    let alloc = rt.alloc();
+    let mut host = silenced(alloc)?;
+    assert!(rt; is_silent(alloc, &mut host, 14)?);
+    assert!(rt; !is_silent(alloc, &mut host, 15)?);
+    Ok(())
+}
+
+// Bytes that are no frame go, and so does a frame to another.
+#[test]
+fn a_guard_withholds_frames_to_a_key_alone(rt: HostRuntime) -> Result<(), Fail> {
+    let alloc = rt.alloc();
+    let mut host = silenced(alloc)?;
+    let reaction = host.raw(alloc, 14, &PACKET)?;
     assert!(rt; is_withheld(&reaction));
-    // Bytes that are no frame go, and so does a frame to another.
-    let reaction = host.raw(alloc, 14, &packet.as_slice()[..90])?;
+    let reaction = host.raw(alloc, 14, &PACKET[..90])?;
     assert!(rt; digest_in(&reaction).is_some());
-    let reaction = host.raw(alloc, 14, packet.as_slice())?;
-    assert!(rt; is_withheld(&reaction));
     let reaction = host.send(alloc, 14, address(HOST_C), 2, &[0])?;
     assert!(rt; digest_in(&reaction).is_some());
-    let reaction = host.send(alloc, 15, address(HOST_B), 2, &[0])?;
-    assert!(rt; digest_in(&reaction).is_some());
+    Ok(())
+}
+
+#[test]
+fn a_shut_off_that_lapsed_is_refused(rt: HostRuntime) -> Result<(), Fail> {
+    let alloc = rt.alloc();
+    let mut host = host_a(alloc, 16)?;
+    let packet = sent(alloc, &mut host, HOST_B, 1)?;
+    let order = shut_off(alloc, (HOST_B, 2), &packet, 5, 10)?;
     let reaction = host.arrive(alloc, 15, order.as_slice())?;
     assert_eq!(rt; refusal_in(&reaction), Some(5));
     Ok(())
@@ -163,8 +193,8 @@ fn a_full_guard_refuses_another(rt: HostRuntime) -> Result<(), Fail> {
     Ok(())
 }
 
-// What host a says once it is up again, where a halt fell while it obeyed host b.
-fn said_past(alloc: Global, call: u8, byte: u8) -> Result<Reaction, Fail>
+// Host a, which a halt brought down while it obeyed host b.
+fn fallen(alloc: Global, call: u8, byte: u8) -> Result<Host, Fail>
     requires first { 1 ≤ call }
     requires last { call ≤ 4 }
 {
@@ -173,9 +203,21 @@ fn said_past(alloc: Global, call: u8, byte: u8) -> Result<Reaction, Fail>
     let order = shut_off(alloc, (HOST_B, 2), &packet, 0, 10)?;
     host.halt(call, byte);
     let halted = host.arrive(alloc, 0, order.as_slice())?;
+    if !is_halted(&halted, call.into(), byte.into()) {
+        return Err(Fail::from("a halt"));
+    }
+    Ok(host)
+}
+
+// What host a says once it is up again, where a halt fell while it obeyed host b.
+fn said_past(alloc: Global, call: u8, byte: u8) -> Result<Reaction, Fail>
+    requires first { 1 ≤ call }
+    requires last { call ≤ 4 }
+{
+    let mut host = fallen(alloc, call, byte)?;
     let dropped = host.send(alloc, 0, address(HOST_B), 2, &[0])?;
-    if !is_halted(&halted, call.into(), byte.into()) || drop_in(&dropped) != Some(Reason::Down) {
-        return Err(Fail::from("the halt brings the host down"));
+    if drop_in(&dropped) != Some(Reason::Down) {
+        return Err(Fail::from("a host that is down"));
     }
     let said = host.restart(alloc, 0)?;
     Ok(said)

@@ -1,38 +1,32 @@
 -- What a lease comes to, by the topology.
-use Rattle.std.proofs.Common.{◌≡◌, ◌≢◌, ◌≤◌, ◌⊎◌, inl, inr, ℕ, Bool, true, false, List, [], length, arith, Option, Some, None, Ok, Err, refl, ap, sym, subst, ◌∙◌}
-use Rattle.std.specs.Prelude.{IfErr, IfOk, IfSome, Result, max}
+use Rattle.std.proofs.Common.{◌≡◌, ◌≤◌, ◌⊎◌, inl, inr, ℕ, Bool, true, false, List, [], length, arith, Option, Some, None, refl, ap, sym, subst, ◌∙◌}
+use Rattle.std.specs.Prelude.{IfSome, max}
 use Rattle.std.proofs.lemmas.List.{append-nil}
 use Rattle.std.proofs.lemmas.Bool.{cond-true, cond-false}
 use Rattle.std.proofs.lemmas.Bool.Decides.{nat_tests}
 use Rattle.lms_core.specs.Tree.{identifier_of}
 use Rattle.lms_core.specs.Parameters.{levels_of}
-use Rattle.lease_disk.specs.Images.{AtEachMoment}
 use Rattle.lease_disk.specs.Moments.{at_start}
 use Rattle.leaf_lease.specs.LeaseFile.{IsOpen, is_open, kept_id, kept_height, file_size}
 use Rattle.leaf_lease.specs.Format.{IsFresh}
 use Rattle.aip_io.specs.Sink.{and_then, TookPart}
 use Rattle.aip_topo.specs.declared.topology.Domain.{Domain}
-use Rattle.aip_topo.specs.declared.topology.Topology.{Topology}
-use Rattle.aip_topo.specs.Reading.{RefusedLine, topology_of}
-use Rattle.aip_sim.specs.Causes.{HasCause}
 use Rattle.aip_top.specs.declared.lease.Wanted.{Wanted}
 use Rattle.aip_top.specs.declared.status.Status.{Status}
 use Rattle.aip_top.specs.declared.status.Status.TheVariants as status
 use Rattle.aip_top.specs.declared.status.LeaseFault.TheVariants as fault
 use Rattle.aip_top.specs.Commands.{LeaseOf}
-use Rattle.aip_top.specs.Judged.{refusal_of, refusal_over, IsEarly, IsOpeningEnd, IsOrMemory}
-use Rattle.aip_top.specs.Leasing.{Asked, Refused, Keyed, Formats, HasFresh, IsBeforeDisk, IsFormatted, KeepsOpen, LeaseSays, OfKey, asked_in, asked_of, asked_of_domain, asked_over, lease_end, lease_text, refusal_in}
-use Rattle.aip_top.specs.Statuses.{kind_of}
+use Rattle.aip_top.specs.Judged.{IsEarly, IsOrMemory}
+use Rattle.aip_top.specs.Leasing.{Asked, Refused, Keyed, Formats, HasFresh, IsBeforeDisk, IsFormatted, LeaseSays, OfKey, asked_of_domain, lease_end, lease_text, refusal_in}
 use Rattle.aip_top.specs.Wanted.{IsWanted}
-use Rattle.aip_top.specs.Words.{Lease, Leased}
 use Rattle.aip_top.specs.Written.{WritesOnDone}
 
 -- to take nothing is to stay
-and_nothing : (taken : Option (List ℕ)) → and_then taken [] ≡ taken
+pub and_nothing : (taken : Option (List ℕ)) → and_then taken [] ≡ taken
 and_nothing None = refl
 and_nothing (Some xs) = ap Some (append-nil xs)
 
-took_nothing : (taken : Option (List ℕ)) (bytes : List ℕ) → TookPart taken taken bytes
+pub took_nothing : (taken : Option (List ℕ)) (bytes : List ℕ) → TookPart taken taken bytes
 took_nothing taken bytes = record { part = []; rest = bytes; whole = refl; took = sym (and_nothing taken) }
 
 -- a name that no domain has is unknown
@@ -81,6 +75,7 @@ ends_told file status.Memory A B C says late write disk a b c = absurd (late tt)
 ends_told file status.Usage A B C says late write disk a b c = absurd says
 ends_told file (status.Topology line f) A B C says late write disk a b c = absurd says
 ends_told file (status.Schedule line f) A B C says late write disk a b c = absurd says
+ends_told file (status.Record line f) A B C says late write disk a b c = absurd says
 
 -- the same over every disk
 lease_ends : (content : Option (List ℕ)) (end : Status) (A B C : Type 0) → LeaseSays content end → (IsBeforeDisk end → ⊥) → (end ≡ status.WriteFault → B)

@@ -1,2 +1,4 @@
+pub mod Early
 pub mod Leases
 pub mod Promised
+pub mod RecordLists

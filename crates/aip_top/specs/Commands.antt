@@ -11,6 +11,7 @@ use Rattle.aip_top.specs.Statuses.{status_of}
 use Rattle.aip_top.specs.Judged.{IsOrMemory}
 use Rattle.aip_top.specs.Written.{Writes, WritesOnDone}
 use Rattle.aip_top.specs.Addresses.{address_end, addresses_in}
+use Rattle.aip_top.specs.Listings.{listing_end, listing_text, registry_in}
 use Rattle.aip_top.specs.Leasing.{Formats, HasFresh, IsAlready, IsFormatted, KeepsOpen, LeaseSays, lease_end, lease_text}
 
 -- `run` of two texts: it ends and writes as the rules say, comes to its end where nothing fails, and a core that comes back
@@ -24,6 +25,11 @@ pub record RunOf (topology schedule : List ℕ) (unread unwritten : Type 0) (end
 pub record AddressOf (text : List ℕ) (unread unwritten : Type 0) (end : Status) (old new : Option (List ℕ)) : Type 0 where
   pub writes : Writes (address_end text) (addresses_in text) end old new
   pub complete : (unread → ⊥) → (unwritten → ⊥) → IsOrMemory (address_end text) end
+
+-- `registry` of a topology text and a record file: the same, for the list of the records that are kept.
+pub record RegistryOf (topology records : List ℕ) (unread unwritten : Type 0) (end : Status) (old new : Option (List ℕ)) : Type 0 where
+  pub writes : Writes (listing_end (registry_in topology records)) (listing_text (registry_in topology records)) end old new
+  pub complete : (unread → ⊥) → (unwritten → ⊥) → IsOrMemory (listing_end (registry_in topology records)) end
 
 -- `lease` for a key: how it may end, by the file as it was; where the file was formatted, it is fresh in every image that a
 -- crash may leave; what a crash may leave at each moment; and the line is written.

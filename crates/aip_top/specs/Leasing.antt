@@ -87,6 +87,7 @@ LeaseSays told (status.Topology line f) = ⊥
 LeaseSays told (status.Schedule line f) = ⊥
 LeaseSays told (status.Lease fault.Unknown) = ⊥
 LeaseSays told (status.Lease fault.Keyless) = ⊥
+LeaseSays told (status.Record line f) = ⊥
 
 -- the status comes before a lease touches the disk: a refusal, a fault of reading, or want of memory
 abbrev pub IsBeforeDisk : Status → Type 0
@@ -100,6 +101,7 @@ IsBeforeDisk status.Done = ⊥
 IsBeforeDisk status.Usage = ⊥
 IsBeforeDisk status.WriteFault = ⊥
 IsBeforeDisk (status.Schedule line f) = ⊥
+IsBeforeDisk (status.Record line f) = ⊥
 IsBeforeDisk status.DiskFault = ⊥
 
 -- the file was formatted: all was done, or but the writing failed

@@ -4,6 +4,7 @@ pub mod Named
 pub mod Judged
 pub mod Written
 pub mod Addresses
+pub mod Listings
 pub mod Leasing
 pub mod Commands
 pub mod Wanted

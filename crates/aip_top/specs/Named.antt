@@ -1,8 +1,9 @@
 -- What a command names, seen by the bytes of its words.
 use Rattle.std.specs.Prelude.{string_bytes}
-use Rattle.aip_top.specs.Words.{Files, Leased, Command, Run, Address, Lease}
+use Rattle.aip_top.specs.Words.{Files, Leased, RecordFiles, Command, Run, Address, Lease, Registry}
 use Rattle.aip_top.specs.declared.command.RunWords.{RunWords}
 use Rattle.aip_top.specs.declared.command.LeaseWords.{LeaseWords}
+use Rattle.aip_top.specs.declared.command.RegistryWords.{RegistryWords}
 use Rattle.aip_top.specs.declared.command.Command as words
 use Rattle.aip_top.specs.declared.command.Command.TheVariants as command
 
@@ -14,8 +15,13 @@ files_of words = record { topology = string_bytes words.topology.now; schedule =
 abbrev pub leased_of : LeaseWords → Leased
 leased_of words = record { topology = string_bytes words.topology.now; domain = words.domain }
 
+-- the two files that a registry names
+abbrev pub record_files_of : RegistryWords → RecordFiles
+record_files_of words = record { topology = string_bytes words.topology.now; records = string_bytes words.records.now }
+
 -- the command that was read
 abbrev pub named : words.Command → Command
 named (command.Run words) = Run (files_of words)
 named (command.Address topology) = Address (string_bytes topology.now)
 named (command.Lease words) = Lease (leased_of words)
+named (command.Registry words) = Registry (record_files_of words)

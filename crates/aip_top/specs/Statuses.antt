@@ -1,12 +1,14 @@
 -- What a status says of the end of a command.
-use Rattle.std.specs.Prelude.{ℕ, Bool, true, false, Option, Some, None, is_some}
+use Rattle.std.specs.Prelude.{ℕ, Bool, true, false, Option}
 use Rattle.aip_rules.specs.Texts.{Ending}
 use Rattle.aip_sim.specs.Ends.{run_end_of}
 use Rattle.aip_sim.specs.declared.ends.RunEnd.{RunEnd}
 use Rattle.aip_sim.specs.declared.ends.RunEnd.TheVariants as run_end
 use Rattle.aip_sim.specs.declared.topologies.TopologyEnd.{TopologyEnd}
 use Rattle.aip_sim.specs.declared.topologies.TopologyEnd.TheVariants as topology_end
-use Rattle.aip_top.specs.Words.{Command, is_run, is_lease, is_no_command, is_any_command, is_never}
+use Rattle.aip_records.specs.declared.faults.RecordsEnd.{RecordsEnd}
+use Rattle.aip_records.specs.declared.faults.RecordsEnd.TheVariants as records_end
+use Rattle.aip_top.specs.Words.{Command, is_run, is_lease, is_registry, is_no_command, is_any_command, is_never}
 use Rattle.aip_top.specs.declared.status.Status.{Status}
 use Rattle.aip_top.specs.declared.status.Status.TheVariants as status
 use Rattle.aip_top.specs.declared.status.LeaseFault.TheVariants as fault
@@ -22,6 +24,7 @@ exit_code_of (status.Schedule line f) = 6
 exit_code_of status.DiskFault = 8
 exit_code_of status.Memory = 9
 exit_code_of (status.Lease f) = 10
+exit_code_of (status.Record line f) = 11
 
 -- the status of an answer of a run
 abbrev pub status_of_run : RunEnd → Status
@@ -41,6 +44,12 @@ abbrev pub status_without : TopologyEnd → Status
 status_without topology_end.ReadFault = status.ReadFault
 status_without (topology_end.Refused line f) = status.Topology line f
 status_without topology_end.Memory = status.Memory
+
+-- the status where no records could be read
+abbrev pub status_without_records : RecordsEnd → Status
+status_without_records records_end.ReadFault = status.ReadFault
+status_without_records (records_end.Refused line f) = status.Record line f
+status_without_records records_end.Memory = status.Memory
 
 -- What kind of answer a status is, whatever is told: the commands that it answers; those of them where bytes may have been
 -- written by then, where the disk may have been met, and where a core comes back; whether it refuses a command by what the
@@ -65,4 +74,5 @@ kind_of status.DiskFault = record { answers = is_lease; writes = is_never; meets
 kind_of (status.Lease fault.Unknown) = record { answers = is_lease; writes = is_never; meets_disk = is_never; gives_core = is_never; refuses = true; cuts_short = false }
 kind_of (status.Lease fault.Keyless) = record { answers = is_lease; writes = is_never; meets_disk = is_never; gives_core = is_never; refuses = true; cuts_short = false }
 kind_of (status.Lease (fault.Already id height)) = record { answers = is_lease; writes = is_never; meets_disk = is_lease; gives_core = is_never; refuses = false; cuts_short = false }
+kind_of (status.Record line f) = record { answers = is_registry; writes = is_never; meets_disk = is_never; gives_core = is_never; refuses = false; cuts_short = false }
 kind_of status.Memory = record { answers = is_any_command; writes = is_run; meets_disk = is_never; gives_core = is_never; refuses = false; cuts_short = true }

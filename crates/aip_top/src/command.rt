@@ -22,6 +22,15 @@ pub struct LeaseWords<'a> {
     pub domain: Name,
 }
 
+/// The two files that a registry names.
+#[derive(Clone, Copy)]
+pub struct RegistryWords<'a> {
+    /// The file of the topology.
+    pub topology: &'a String,
+    /// The file of the records.
+    pub records: &'a String,
+}
+
 /// A command.
 #[derive(Clone, Copy)]
 pub enum Command<'a> {
@@ -31,6 +40,8 @@ pub enum Command<'a> {
     Address(&'a String),
     /// `lease TOPO DOMAIN`
     Lease(LeaseWords<'a>),
+    /// `registry TOPO RECORDS`
+    Registry(RegistryWords<'a>),
 }
 
 fn command_of_two<'a>(word: &'a String, topology: &'a String) -> Option<Command<'a>>
@@ -67,6 +78,11 @@ fn command_of_three<'a>(
         }))
     } else if word.as_str() == "lease" {
         lease_of(topology, third)
+    } else if word.as_str() == "registry" {
+        Some(Command::Registry(RegistryWords {
+            topology,
+            records: third,
+        }))
     } else {
         None
     }

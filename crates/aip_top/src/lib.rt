@@ -11,6 +11,7 @@
 mod address;
 mod command;
 mod lease;
+mod registry;
 mod run;
 mod status;
 mod top;
@@ -18,5 +19,6 @@ mod topology;
 mod writing;
 
 pub use aip_addr::Memory;
+pub use aip_records::RecordFault;
 pub use status::{LeaseFault, Status};
 pub use top::aip;

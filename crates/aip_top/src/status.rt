@@ -2,6 +2,7 @@ ghost use Rattle.std.specs.Prelude.{◌≡◌};
 ghost use Rattle.aip_top.specs.Statuses.{exit_code_of};
 
 use aip_addr::Memory;
+use aip_records::{RecordFault, RecordsEnd};
 use aip_rules::StepFault;
 use aip_sim::{RunEnd, TopologyEnd};
 use aip_topo::TopoFault;
@@ -53,6 +54,13 @@ pub enum Status {
     Memory,
     /// The lease is refused. Nothing was written, and the file is as it was.
     Lease(LeaseFault),
+    /// A line of the record file is refused. Nothing was written.
+    Record {
+        /// The number of the first refused line, from 1.
+        line: u32,
+        /// The first fault that applies to it.
+        fault: RecordFault,
+    },
 }
 
 impl Status {
@@ -70,6 +78,7 @@ impl Status {
             Status::DiskFault => 8,
             Status::Memory => 9,
             Status::Lease(_) => 10,
+            Status::Record { .. } => 11,
         }
     }
 }
@@ -96,6 +105,21 @@ impl From<TopologyEnd> for Status {
             TopologyEnd::ReadFault => Status::ReadFault,
             TopologyEnd::Refused { line, fault } => Status::Topology { line, fault },
             TopologyEnd::Memory => Status::Memory,
+        }
+    }
+}
+
+impl From<RecordsEnd> for Status {
+    ghost use Rattle.std.specs.Prelude.{◌≡◌};
+    ghost use Rattle.aip_top.specs.Statuses.{status_without_records};
+
+    ghost from_gives = { λ end status. status ≡ status_without_records end };
+
+    fn from(end: RecordsEnd) -> Self {
+        match end {
+            RecordsEnd::ReadFault => Status::ReadFault,
+            RecordsEnd::Refused { line, fault } => Status::Record { line, fault },
+            RecordsEnd::Memory => Status::Memory,
         }
     }
 }

@@ -3,15 +3,16 @@ ghost use Rattle.std.specs.Prelude.{◌≡◌, ◌↔◌, ◌⊎◌, None, true,
 ghost use Rattle.aip_io.specs.Causes.{Rose};
 ghost use Rattle.aip_rules.specs.Promises.{ForwardsAreJustified, GuardsAreSilent, HoldsOfRun, NoLeafSignsTwice};
 ghost use Rattle.aip_sim.specs.Causes.{HasCause, ReadsOnly};
-ghost use Rattle.aip_top.specs.Commands.{AddressOf, KeepsLeases, LeaseOf, RunOf};
+ghost use Rattle.aip_top.specs.Commands.{AddressOf, KeepsLeases, LeaseOf, RegistryOf, RunOf};
 ghost use Rattle.aip_top.specs.Judged.{end_by, Judges};
 ghost use Rattle.aip_top.specs.Leasing.{OfItsKey};
 ghost use Rattle.aip_top.specs.Statuses.{kind_of};
-ghost use Rattle.aip_top.specs.Words.{spelled, topology_in, IsNamed, OfAddress, OfLease, OfRun, OfTexts};
+ghost use Rattle.aip_top.specs.Words.{spelled, topology_in, IsNamed, OfAddress, OfLease, OfRecords, OfRegistry, OfRun, OfTexts};
 
 use crate::address::address;
 use crate::command::{Command, command_of};
 use crate::lease::lease;
+use crate::registry::registry;
 use crate::run::run;
 use crate::status::Status;
 use aip_core::Core;
@@ -25,6 +26,7 @@ use std::alloc::Global;
 /// `run TOPO SCHED` writes the trace of the schedule over the topology, and a refusal line where a line of the schedule is
 /// refused. `address TOPO` writes the addresses of the domains, routers and hosts. `lease TOPO DOMAIN` formats the disk as
 /// the lease file of the domain's key, unless it is a lease file already, and writes the key's identifier and height.
+/// `registry TOPO RECORDS` writes the list of the newest of the records, unless a line of their file is refused.
 #[tactic(auto, using(crate::proofs::Promised::justified, crate::proofs::Promised::silent, crate::proofs::Promised::leaf_once))]
 pub fn aip<S: Shelf, K: Sink, D: Disk>(
     alloc: Global,
@@ -70,6 +72,11 @@ pub fn aip<S: Shelf, K: Sink, D: Disk>(
     ensures address { OfAddress (spelled words.now) (λ name. IfSome (S.text shelf.old name) (λ told. AddressOf told
         (Rose (S.faults shelf.old name) (S.faults shelf.new name))
         (Rose (K.faults out.old) (K.faults out.new)) result.0 (K.taken out.old) (K.taken out.new))) }
+    ensures registry { OfRegistry (spelled words.now) (λ files. OfRecords (S.text shelf.old) files (λ topology records.
+        RegistryOf topology records
+        (Rose (S.faults shelf.old files.topology) (S.faults shelf.new files.topology)
+        ⊎ Rose (S.faults shelf.old files.records) (S.faults shelf.new files.records))
+        (Rose (K.faults out.old) (K.faults out.new)) result.0 (K.taken out.old) (K.taken out.new))) }
     ensures lease { OfLease (spelled words.now) (λ leased. OfItsKey (S.text shelf.old) leased (λ key.
         LeaseOf D.now D.may_leave D.clock D.during key
         (Rose (S.faults shelf.old leased.topology) (S.faults shelf.new leased.topology))
@@ -96,6 +103,12 @@ pub fn aip<S: Shelf, K: Sink, D: Disk>(
         Some(Command::Lease(words)) => {
             let topology = words.topology.as_str();
             let (status, disk) = lease(alloc, shelf, topology, &words.domain, out, disk);
+            (status, disk, None)
+        }
+        Some(Command::Registry(words)) => {
+            let topology = words.topology.as_str();
+            let records = words.records.as_str();
+            let status = registry(alloc, shelf, topology, records, out);
             (status, disk, None)
         }
         None => (Status::Usage, disk, None),

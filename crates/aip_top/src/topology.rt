@@ -1,5 +1,5 @@
 // The topology that a command names.
-ghost use Rattle.std.specs.Prelude.{◌≡◌, IfSome, IfOk, IfErr, IsErrOf};
+ghost use Rattle.std.specs.Prelude.{◌≡◌, ℕ, List, IfSome, IfOk, IfErr, IsErrOf};
 ghost use Rattle.aip_topo.specs.Sound.{IsSound};
 ghost use Rattle.aip_sim.specs.Causes.{ReadsOnly};
 ghost use Rattle.aip_top.specs.Judged.{IsTopologyOf, IsOpeningEnd};
@@ -18,6 +18,7 @@ pub fn topology_under<S: Shelf>(
     ensures told { IfSome (S.text shelf.old name.now) (λ told. IsTopologyOf told result) }
     ensures sound { IfOk result IsSound }
     ensures early { IfErr result IsOpeningEnd }
+    ensures text { (other : List ℕ) → S.text shelf.new other ≡ S.text shelf.old other }
     ensures counts { ReadsOnly (λ other. other ≡ name.now) (IsErrOf result Status.ReadFault)
         (S.text shelf.old) (S.faults shelf.old) (S.faults shelf.new) }
 {
