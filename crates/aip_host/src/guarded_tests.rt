@@ -36,20 +36,14 @@ fn put_in(reaction: Reaction) -> Result<Bytes, Fail> {
     }
 }
 
-// The packet of this id that host a sends to another.
-fn sent(alloc: Global, host: &mut Host, to: [u8; 20], packet: u32) -> Result<Bytes, Fail> {
-    let reaction = host.send(alloc, 0, address(to), packet, &[0])?;
+// The packet that host a sends to another at tick 0.
+fn sent(alloc: Global, host: &mut Host, to: [u8; 20]) -> Result<Bytes, Fail> {
+    let reaction = host.send(alloc, 0, address(to), 1, &[0])?;
     put_in(reaction)
 }
 
-// The shut-off by which a host names a frame, with its leaf 0.
-fn shut_off(
-    alloc: Global,
-    of: ([u8; 20], u8),
-    named: &Bytes,
-    now: u64,
-    ttl: u32,
-) -> Result<Bytes, Fail>
+// The shut-off by which a host names a frame, for 10 ticks, with its leaf 0.
+fn shut_off(alloc: Global, of: ([u8; 20], u8), named: &Bytes, now: u64) -> Result<Bytes, Fail>
     requires { now < 2 ^ 48 }
 {
     let (eid, byte) = of;
@@ -58,8 +52,16 @@ fn shut_off(
     if !host.has_key() || !is_frame(named.as_slice()) {
         return Err(Fail::from("a key and a frame"));
     }
-    let reaction = host.shut(alloc, now, named.as_slice(), ttl)?;
+    let reaction = host.shut(alloc, now, named.as_slice(), 10)?;
     put_in(reaction)
+}
+
+// The shut-off by which host b names a packet that host a sends to it.
+fn order_of_b(alloc: Global, host: &mut Host, now: u64) -> Result<Bytes, Fail>
+    requires { now < 2 ^ 48 }
+{
+    let packet = sent(alloc, host, HOST_B)?;
+    shut_off(alloc, (HOST_B, 2), &packet, now)
 }
 
 // Until when a host obeys host b, or keeps that it does, if that is all that happened.
@@ -127,8 +129,7 @@ fn is_halted(reaction: &Reaction, at: u64, left: u64) -> bool {
 // Host a, which obeys host b until tick 15.
 fn silenced(alloc: Global) -> Result<Host, Fail> {
     let mut host = host_a(alloc, 16)?;
-    let packet = sent(alloc, &mut host, HOST_B, 1)?;
-    let order = shut_off(alloc, (HOST_B, 2), &packet, 5, 10)?;
+    let order = order_of_b(alloc, &mut host, 5)?;
     let reaction = host.arrive(alloc, 5, order.as_slice())?;
     if until_in(&reaction) != Some(15) {
         return Err(Fail::from("host b is obeyed until tick 15"));
@@ -136,12 +137,18 @@ fn silenced(alloc: Global) -> Result<Host, Fail> {
     Ok(host)
 }
 
-// Whether host a is silent at a tick where it is to send a packet to host b.
+// Whether host a withholds a packet that it is to send to host b at a tick.
 fn is_silent(alloc: Global, host: &mut Host, now: u64) -> Result<bool, Fail>
     requires { now < 2 ^ 48 }
 {
     let reaction = host.send(alloc, now, address(HOST_B), 2, &[0])?;
     Ok(is_withheld(&reaction))
+}
+
+// Whether host a puts bytes at tick 14.
+fn goes(alloc: Global, host: &mut Host, bytes: &[u8]) -> Result<bool, Fail> {
+    let reaction = host.raw(alloc, 14, bytes)?;
+    Ok(digest_in(&reaction).is_some())
 }
 
 #[test]
@@ -158,23 +165,26 @@ fn a_guard_withholds_until_a_shut_off_lapses(rt: HostRuntime) -> Result<(), Fail
 fn a_guard_withholds_frames_to_a_key_alone(rt: HostRuntime) -> Result<(), Fail> {
     let alloc = rt.alloc();
     let mut host = silenced(alloc)?;
-    let reaction = host.raw(alloc, 14, &PACKET)?;
-    assert!(rt; is_withheld(&reaction));
-    let reaction = host.raw(alloc, 14, &PACKET[..90])?;
-    assert!(rt; digest_in(&reaction).is_some());
-    let reaction = host.send(alloc, 14, address(HOST_C), 2, &[0])?;
-    assert!(rt; digest_in(&reaction).is_some());
+    assert!(rt; !goes(alloc, &mut host, &PACKET)?);
+    assert!(rt; goes(alloc, &mut host, &PACKET[..90])?);
+    sent(alloc, &mut host, HOST_C)?;
     Ok(())
+}
+
+// The number of the reason for which host a refuses a shut-off at a tick.
+fn refused(alloc: Global, host: &mut Host, order: &Bytes, now: u64) -> Result<Option<u64>, Fail>
+    requires { now < 2 ^ 48 }
+{
+    let reaction = host.arrive(alloc, now, order.as_slice())?;
+    Ok(refusal_in(&reaction))
 }
 
 #[test]
 fn a_shut_off_that_lapsed_is_refused(rt: HostRuntime) -> Result<(), Fail> {
     let alloc = rt.alloc();
     let mut host = host_a(alloc, 16)?;
-    let packet = sent(alloc, &mut host, HOST_B, 1)?;
-    let order = shut_off(alloc, (HOST_B, 2), &packet, 5, 10)?;
-    let reaction = host.arrive(alloc, 15, order.as_slice())?;
-    assert_eq!(rt; refusal_in(&reaction), Some(5));
+    let order = order_of_b(alloc, &mut host, 5)?;
+    assert_eq!(rt; refused(alloc, &mut host, &order, 15)?, Some(5));
     Ok(())
 }
 
@@ -182,14 +192,11 @@ fn a_shut_off_that_lapsed_is_refused(rt: HostRuntime) -> Result<(), Fail> {
 fn a_full_guard_refuses_another(rt: HostRuntime) -> Result<(), Fail> {
     let alloc = rt.alloc();
     let mut host = host_a(alloc, 1)?;
-    let first = sent(alloc, &mut host, HOST_B, 1)?;
-    let second = sent(alloc, &mut host, HOST_C, 1)?;
-    let order = shut_off(alloc, (HOST_B, 2), &first, 0, 10)?;
-    let reaction = host.arrive(alloc, 0, order.as_slice())?;
-    assert_eq!(rt; until_in(&reaction), Some(10));
-    let order = shut_off(alloc, (HOST_C, 3), &second, 0, 10)?;
-    let reaction = host.arrive(alloc, 0, order.as_slice())?;
-    assert_eq!(rt; refusal_in(&reaction), Some(7));
+    let first = order_of_b(alloc, &mut host, 0)?;
+    let packet = sent(alloc, &mut host, HOST_C)?;
+    let second = shut_off(alloc, (HOST_C, 3), &packet, 0)?;
+    assert_eq!(rt; refused(alloc, &mut host, &first, 0)?, None);
+    assert_eq!(rt; refused(alloc, &mut host, &second, 0)?, Some(7));
     Ok(())
 }
 
@@ -199,8 +206,7 @@ fn fallen(alloc: Global, call: u8, byte: u8) -> Result<Host, Fail>
     requires last { call ≤ 4 }
 {
     let mut host = host_a(alloc, 16)?;
-    let packet = sent(alloc, &mut host, HOST_B, 1)?;
-    let order = shut_off(alloc, (HOST_B, 2), &packet, 0, 10)?;
+    let order = order_of_b(alloc, &mut host, 0)?;
     host.halt(call, byte);
     let halted = host.arrive(alloc, 0, order.as_slice())?;
     if !is_halted(&halted, call.into(), byte.into()) {
@@ -209,26 +215,35 @@ fn fallen(alloc: Global, call: u8, byte: u8) -> Result<Host, Fail>
     Ok(host)
 }
 
-// What host a says once it is up again, where a halt fell while it obeyed host b.
-fn said_past(alloc: Global, call: u8, byte: u8) -> Result<Reaction, Fail>
+#[test]
+fn a_host_whose_guard_fell_drops_what_is_asked_of_it(rt: HostRuntime) -> Result<(), Fail> {
+    let alloc = rt.alloc();
+    let mut host = fallen(alloc, 1, 0)?;
+    let reaction = host.send(alloc, 0, address(HOST_C), 2, &[0])?;
+    assert_eq!(rt; drop_in(&reaction), Some(Reason::Down));
+    Ok(())
+}
+
+// Until when host a keeps that it obeys host b once it is up again, where a halt fell while it obeyed: 0 where it says nothing.
+fn kept_past(alloc: Global, call: u8, byte: u8) -> Result<Option<u64>, Fail>
     requires first { 1 ≤ call }
     requires last { call ≤ 4 }
 {
     let mut host = fallen(alloc, call, byte)?;
-    let dropped = host.send(alloc, 0, address(HOST_B), 2, &[0])?;
-    if drop_in(&dropped) != Some(Reason::Down) {
-        return Err(Fail::from("a host that is down"));
-    }
     let said = host.restart(alloc, 0)?;
-    Ok(said)
+    if said.events.as_slice().is_empty() {
+        Ok(Some(0))
+    } else {
+        Ok(until_in(&said))
+    }
 }
 
 #[test]
 fn a_restarted_host_tells_what_it_kept(rt: HostRuntime) -> Result<(), Fail> {
     let alloc = rt.alloc();
-    assert_eq!(rt; until_in(&said_past(alloc, 3, 165)?), Some(10));
-    assert_eq!(rt; until_in(&said_past(alloc, 4, 165)?), Some(10));
-    assert!(rt; said_past(alloc, 2, 165)?.events.as_slice().is_empty());
-    assert!(rt; said_past(alloc, 4, 0)?.events.as_slice().is_empty());
+    assert_eq!(rt; kept_past(alloc, 3, 165)?, Some(10));
+    assert_eq!(rt; kept_past(alloc, 4, 165)?, Some(10));
+    assert_eq!(rt; kept_past(alloc, 2, 165)?, Some(0));
+    assert_eq!(rt; kept_past(alloc, 4, 0)?, Some(0));
     Ok(())
 }

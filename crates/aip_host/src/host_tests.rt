@@ -159,43 +159,78 @@ pub fn digest_in(reaction: &Reaction) -> Option<[u8; 32]> {
     }
 }
 
-// Sends the packet of this id from host a to host b.
-fn send(alloc: Global, host: &mut Host, packet: u32) -> Result<Reaction, Fail> {
+// What host a does that is to send the packet of this id to host b: the SHA-256 of what it puts.
+fn sent(alloc: Global, host: &mut Host, packet: u32) -> Result<Option<[u8; 32]>, Fail> {
     let reaction = host.send(alloc, 0, address(HOST_B), packet, &[0])?;
-    Ok(reaction)
+    Ok(digest_in(&reaction))
+}
+
+// Why host a drops a packet that it is to send to host b.
+fn unsent(alloc: Global, host: &mut Host) -> Result<Option<Reason>, Fail> {
+    let reaction = host.send(alloc, 0, address(HOST_B), 1, &[0])?;
+    Ok(drop_in(&reaction))
+}
+
+// Why a host drops bytes that arrive at it.
+fn refused(alloc: Global, host: &mut Host, bytes: &[u8]) -> Result<Option<Reason>, Fail> {
+    let reaction = host.arrive(alloc, 0, bytes)?;
+    Ok(drop_in(&reaction))
+}
+
+// The leaf with which a host answers the challenge.
+fn answered(alloc: Global, host: &mut Host) -> Result<Option<u64>, Fail> {
+    let reaction = host.arrive(alloc, 0, &CHALLENGE)?;
+    Ok(leaf_in(&reaction))
 }
 
 #[test]
 fn a_challenge_is_answered(rt: HostRuntime) -> Result<(), Fail> {
     let alloc = rt.alloc();
     let mut host = host_a(alloc, 128)?;
-    let sent = send(alloc, &mut host, 1)?;
-    assert_eq!(rt; digest_in(&sent), Some(Sha256::digest(&PACKET)));
+    assert_eq!(rt; sent(alloc, &mut host, 1)?, Some(Sha256::digest(&PACKET)));
     let answer = host.arrive(alloc, 0, &CHALLENGE)?;
     assert_eq!(rt; leaf_in(&answer), Some(0));
     assert_eq!(rt; digest_in(&answer), Some(RESPONSE_DIGEST));
     Ok(())
 }
 
+// The challenge, with the id of host b at this place.
+fn altered(place: usize) -> [u8; 244]
+    requires { place ≤ 224 }
+{
+    let mut other = CHALLENGE;
+    other[place..place + 20].copy_from_slice(&HOST_B);
+    other
+}
+
+// The challenge, with another packet hash.
+fn unknown() -> [u8; 244] {
+    let mut other = CHALLENGE;
+    other[201] = 0x34;
+    other
+}
+
 #[test]
 fn a_challenge_for_another_host_or_packet_is_dropped(rt: HostRuntime) -> Result<(), Fail> {
     let alloc = rt.alloc();
     let mut host = host_a(alloc, 128)?;
-    let _sent = send(alloc, &mut host, 1)?;
-    let mut other = CHALLENGE;
-    other[150..170].copy_from_slice(&HOST_B);
-    let reaction = host.arrive(alloc, 0, &other)?;
-    assert_eq!(rt; drop_in(&reaction), Some(Reason::NotMine));
-    let mut unknown = CHALLENGE;
-    unknown[201] = 0x34;
-    let reaction = host.arrive(alloc, 0, &unknown)?;
-    assert_eq!(rt; drop_in(&reaction), Some(Reason::Unlogged));
-    let mut stray = CHALLENGE;
-    stray[28..48].copy_from_slice(&HOST_B);
-    let reaction = host.arrive(alloc, 0, &stray)?;
-    assert_eq!(rt; drop_in(&reaction), Some(Reason::Stray));
-    let reaction = host.arrive(alloc, 0, &CHALLENGE[..243])?;
-    assert_eq!(rt; drop_in(&reaction), Some(Reason::Bad));
+    sent(alloc, &mut host, 1)?;
+    assert_eq!(rt;
+        refused(alloc, &mut host, &altered(150))?,
+        Some(Reason::NotMine)
+    );
+    assert_eq!(rt;
+        refused(alloc, &mut host, &altered(28))?,
+        Some(Reason::Stray)
+    );
+    assert_eq!(rt;
+        refused(alloc, &mut host, &unknown())?,
+        Some(Reason::Unlogged)
+    );
+    assert_eq!(rt;
+        refused(alloc, &mut host, &CHALLENGE[..243])?,
+        Some(Reason::Bad)
+    );
     Ok(())
 }
 
@@ -204,9 +239,16 @@ fn a_host_without_a_key_is_mute(rt: HostRuntime) -> Result<(), Fail> {
     let alloc = rt.alloc();
     let mut host = host(alloc, b"a", HOST_A, None, 128, None)?;
     assert!(rt; !host.has_key());
-    let _sent = send(alloc, &mut host, 1)?;
-    let reaction = host.arrive(alloc, 0, &CHALLENGE)?;
-    assert_eq!(rt; drop_in(&reaction), Some(Reason::Mute));
+    sent(alloc, &mut host, 1)?;
+    assert_eq!(rt; refused(alloc, &mut host, &CHALLENGE)?, Some(Reason::Mute));
+    Ok(())
+}
+
+// Puts the first bytes of a packet.
+fn make_noise(alloc: Global, host: &mut Host, length: usize) -> Result<(), Fail>
+    requires { length ≤ 91 }
+{
+    host.raw(alloc, 0, &PACKET[..length])?;
     Ok(())
 }
 
@@ -215,17 +257,16 @@ fn a_host_without_a_key_is_mute(rt: HostRuntime) -> Result<(), Fail> {
 fn a_log_of_two_forgets_the_third_last_frame(rt: HostRuntime) -> Result<(), Fail> {
     let alloc = rt.alloc();
     let mut host = host_a(alloc, 2)?;
-    let _first = send(alloc, &mut host, 1)?;
-    let _second = send(alloc, &mut host, 2)?;
-    for length in [1usize, 89, 90] {
-        let noise = host.raw(alloc, 0, &PACKET[..length])?;
-        assert!(rt; noise.put.is_some());
-    }
-    let answer = host.arrive(alloc, 0, &CHALLENGE)?;
-    assert_eq!(rt; leaf_in(&answer), Some(0));
+    sent(alloc, &mut host, 1)?;
+    sent(alloc, &mut host, 2)?;
+    make_noise(alloc, &mut host, 1)?;
+    make_noise(alloc, &mut host, 90)?;
+    assert_eq!(rt; answered(alloc, &mut host)?, Some(0));
     // The answer is a frame that is put.
-    let answer = host.arrive(alloc, 0, &CHALLENGE)?;
-    assert_eq!(rt; drop_in(&answer), Some(Reason::Unlogged));
+    assert_eq!(rt;
+        refused(alloc, &mut host, &CHALLENGE)?,
+        Some(Reason::Unlogged)
+    );
     Ok(())
 }
 
@@ -233,13 +274,11 @@ fn a_log_of_two_forgets_the_third_last_frame(rt: HostRuntime) -> Result<(), Fail
 fn a_dry_host_answers_no_more(rt: HostRuntime) -> Result<(), Fail> {
     let alloc = rt.alloc();
     let mut host = host_a(alloc, 128)?;
-    let _sent = send(alloc, &mut host, 1)?;
+    sent(alloc, &mut host, 1)?;
     for leaf in 0..32u64 {
-        let answer = host.arrive(alloc, 0, &CHALLENGE)?;
-        assert_eq!(rt; leaf_in(&answer), Some(leaf));
+        assert_eq!(rt; answered(alloc, &mut host)?, Some(leaf));
     }
-    let answer = host.arrive(alloc, 0, &CHALLENGE)?;
-    assert_eq!(rt; drop_in(&answer), Some(Reason::Dry));
+    assert_eq!(rt; refused(alloc, &mut host, &CHALLENGE)?, Some(Reason::Dry));
     Ok(())
 }
 
@@ -259,7 +298,7 @@ fn a_shut_off_names_a_frame(rt: HostRuntime) -> Result<(), Fail> {
 // Host a, which a stop brought down while it signed with its leaf 0.
 fn fallen(alloc: Global) -> Result<Host, Fail> {
     let mut host = host_a(alloc, 128)?;
-    let _sent = send(alloc, &mut host, 1)?;
+    sent(alloc, &mut host, 1)?;
     if !host.has_key() {
         return Err(Fail::from("a key"));
     }
@@ -273,18 +312,24 @@ fn fallen(alloc: Global) -> Result<Host, Fail> {
 }
 
 #[test]
-fn a_host_is_down_from_a_stop_to_its_restart(rt: HostRuntime) -> Result<(), Fail> {
+fn a_host_that_is_down_drops_what_is_asked_of_it(rt: HostRuntime) -> Result<(), Fail> {
     let alloc = rt.alloc();
     let mut host = fallen(alloc)?;
-    let sent = send(alloc, &mut host, 1)?;
-    assert_eq!(rt; drop_in(&sent), Some(Reason::Down));
-    let reaction = host.arrive(alloc, 0, &CHALLENGE)?;
-    assert_eq!(rt; drop_in(&reaction), Some(Reason::Down));
-    let _said = host.restart(alloc, 0)?;
-    let reaction = host.arrive(alloc, 0, &CHALLENGE)?;
-    assert_eq!(rt; drop_in(&reaction), Some(Reason::Unlogged));
-    let _sent = send(alloc, &mut host, 1)?;
-    let answer = host.arrive(alloc, 0, &CHALLENGE)?;
-    assert_eq!(rt; leaf_in(&answer), Some(1));
+    assert_eq!(rt; unsent(alloc, &mut host)?, Some(Reason::Down));
+    assert_eq!(rt; refused(alloc, &mut host, &CHALLENGE)?, Some(Reason::Down));
+    Ok(())
+}
+
+#[test]
+fn a_restarted_host_has_its_next_leaf_and_an_empty_log(rt: HostRuntime) -> Result<(), Fail> {
+    let alloc = rt.alloc();
+    let mut host = fallen(alloc)?;
+    host.restart(alloc, 0)?;
+    assert_eq!(rt;
+        refused(alloc, &mut host, &CHALLENGE)?,
+        Some(Reason::Unlogged)
+    );
+    sent(alloc, &mut host, 1)?;
+    assert_eq!(rt; answered(alloc, &mut host)?, Some(1));
     Ok(())
 }
