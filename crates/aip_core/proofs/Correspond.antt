@@ -32,8 +32,8 @@ use Rattle.aip_core.specs.Moves.{Moved, IsKeptStep, kept_after, links_with, reco
 use Rattle.aip_core.specs.RouterStands.{RoutersStand}
 use Rattle.aip_core.specs.StandsFor.{HostsStand, StandsFor, IsStep}
 use Rattle.aip_core.specs.Answers.{IsRefusal, IsKeptRefusal}
-use Rattle.aip_core.specs.declared.engine.StepEnd.{StepEnd}
-use Rattle.aip_core.specs.declared.engine.StepEnd.TheVariants.{Refused, Memory}
+use Rattle.aip_core.specs.declared.ends.StepEnd.{StepEnd}
+use Rattle.aip_core.specs.declared.ends.StepEnd.TheVariants.{Refused, Memory}
 use Rattle.aip_core.proofs.LinksNow.{links_with_input}
 use Rattle.aip_core.proofs.Outcomes.{kept_of, outcome_is, reaction_is}
 use Rattle.aip_core.proofs.HostsAfter.{hosts_after}

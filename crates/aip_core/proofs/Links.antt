@@ -3,7 +3,7 @@ use Rattle.std.proofs.Common.{◌≡◌, ℕ, zero, suc, Bool, List, [], ◌∷�
 use Rattle.std.specs.Prelude.{All}
 use Rattle.std.proofs.lemmas.List.Elements.{All-cons, All-head, All-tail}
 use Rattle.domain_routes.specs.declared.Edge.{Edge}
-use Rattle.domain_routes.specs.Walks.{JoinsRouters, IsSound}
+use Rattle.domain_routes.specs.Walks.{JoinsRouters, IsSoundGraph}
 use Rattle.aip_core.specs.Moves.{with_link}
 
 -- a link with its test changed
@@ -29,5 +29,5 @@ joined_with domains (e ∷ es) zero up h = All-cons (JoinsRouters domains) _ es 
 joined_with domains (e ∷ es) (suc l) up h =
     All-cons (JoinsRouters domains) e _ (All-head (JoinsRouters domains) e es h) (joined_with domains es l up (All-tail (JoinsRouters domains) e es h))
 
-pub sound_with : (domains : List ℕ) (links : List Edge) (l : ℕ) (up : Bool) → IsSound domains links → IsSound domains (with_link links l up)
+pub sound_with : (domains : List ℕ) (links : List Edge) (l : ℕ) (up : Bool) → IsSoundGraph domains links → IsSoundGraph domains (with_link links l up)
 sound_with domains links l up h = record { routers = h.routers; links = joined_with domains links l up h.links }

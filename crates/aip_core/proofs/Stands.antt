@@ -6,7 +6,7 @@ use Rattle.std.proofs.lemmas.List.{length-map}
 use Rattle.std.proofs.lemmas.List.Sums.{sum_by-cons}
 use Rattle.std.proofs.lemmas.List.Elements.{All-nil, All-cons, All-head, All-tail, All-append}
 use Rattle.domain_routes.specs.declared.Edge.{Edge}
-use Rattle.domain_routes.specs.Walks.{IsSound as IsSoundGraph}
+use Rattle.domain_routes.specs.Walks.{IsSoundGraph}
 use Rattle.aip_topo.specs.declared.topology.Topology.{Topology}
 use Rattle.aip_topo.specs.declared.topology.Router.{Router}
 use Rattle.aip_topo.specs.declared.topology.Part.{Part}

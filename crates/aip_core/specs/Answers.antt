@@ -11,8 +11,8 @@ use Rattle.aip_core.specs.Machine.{kept_reaction}
 use Rattle.aip_core.specs.StandsFor.{StandsFor}
 use Rattle.aip_core.specs.declared.reactions.NoReaction.{NoReaction}
 use Rattle.aip_core.specs.declared.reactions.NoReaction.TheVariants as no
-use Rattle.aip_core.specs.declared.engine.StepEnd.{StepEnd}
-use Rattle.aip_core.specs.declared.engine.StepEnd.TheVariants.{Refused, Memory}
+use Rattle.aip_core.specs.declared.ends.StepEnd.{StepEnd}
+use Rattle.aip_core.specs.declared.ends.StepEnd.TheVariants.{Refused, Memory}
 
 -- the answer to an input is this outcome, or want of memory
 abbrev pub IsOutcome : Result Reaction StepFault → Result Reaction NoReaction → Type 0

@@ -2,7 +2,7 @@
 use Rattle.std.specs.Prelude.{◌≡◌, ℕ, ◌<◌, ◌^◌, List, length, All, Vec, ⊤}
 use Rattle.std.specs.declared.alloc.Global.{Global}
 use Rattle.domain_routes.specs.declared.Edge.{Edge}
-use Rattle.domain_routes.specs.Walks.{IsSound}
+use Rattle.domain_routes.specs.Walks.{IsSoundGraph}
 use Rattle.aip_topo.specs.declared.topology.Topology.{Topology}
 use Rattle.aip_rules.specs.declared.Neighbour.{Neighbour}
 use Rattle.aip_rules.specs.declared.Neighbour.TheVariants.{Host, Link}
@@ -21,7 +21,7 @@ pub record Wired : Type 0 where
 -- the links join routers, no router has more ports than 16 bits number, and the routes that are kept are those over the
 -- links
 pub record HoldsRoutes (wiring : Inside) : Type 0 where
-  pub sound : IsSound wiring.graph.domains.items wiring.graph.edges.items
+  pub sound : IsSoundGraph wiring.graph.domains.items wiring.graph.edges.items
   pub short : (router : ℕ) → length (row_of wiring.rows.items router) < 2 ^ 16
   pub routes : AreRoutesOver wiring.graph.domains.items wiring.graph.edges.items wiring.routes
 

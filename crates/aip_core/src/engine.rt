@@ -9,17 +9,19 @@ ghost use Rattle.aip_topo.specs.declared.topology.Topology.{Topology as Network}
 ghost use Rattle.aip_topo.specs.Sound.{IsSound};
 ghost use Rattle.aip_rules.specs.State.{now_of, flight_count, ticks_of};
 ghost use Rattle.aip_rules.specs.Routes.{domains_of_routers};
-ghost use Rattle.aip_rules.specs.Reaction.{numbered, in_put, put_event};
+ghost use Rattle.aip_rules.specs.Reaction.{numbered};
 ghost use Rattle.aip_rules.specs.Step.{injected, ticked};
 ghost use Rattle.aip_rules.specs.Laws.{PutAtMostOne};
 ghost use Rattle.aip_core.specs.Machine.{AreSeated, at_host_or, host_of, host_outcome, is_at_host, kept_outcome, kept_relinked, unless_hindered};
-ghost use Rattle.aip_core.specs.Moves.{Does, GoesToPort, LinkIsThere, Moved, IsKeptStep, host_named_by, host_touched, router_touched, kept_after, links_with};
+ghost use Rattle.aip_core.specs.Moves.{Does, GoesToPort, LinkIsThere, Moved, IsKeptStep, host_named_by, host_touched, router_touched, kept_after};
 ghost use Rattle.aip_core.specs.StandsFor.{StandsFor, IsStep};
 ghost use Rattle.aip_core.specs.Starting.{IsKeptAtStart};
 ghost use Rattle.aip_core.specs.Answers.{IsOutcome, IsRefusal, IsKeptRefusal};
 
+use crate::after::{linked, put_behind, ticks_of};
 use crate::checks::Checks;
 use crate::directory::Directory;
+use crate::ends::StepEnd;
 use crate::flights::Flights;
 use crate::host::{act_at, can_be_put};
 use crate::places::{Places, places_of};
@@ -32,7 +34,7 @@ use aip_addr::{Bytes, Name};
 use aip_event::{Events, Input, Target};
 use aip_host::Host;
 use aip_registry::Registry;
-use aip_rules::{Flight, MOST_INPUTS, Reaction, StepFault};
+use aip_rules::{MOST_INPUTS, Reaction, StepFault};
 use aip_topo::{Router, Topology};
 use std::alloc::{AllocError, Global};
 use std::marker::Model;
@@ -65,78 +67,11 @@ impl Model for Core {
     ghost invariant = { FitTogether };
 }
 
-/// How a step ends that takes no input.
-#[derive(Drop)]
-pub enum StepEnd {
-    /// The rules refuse the input. The core is as it was.
-    Refused {
-        /// The core that was given.
-        core: Core,
-        /// The first fault that applies.
-        fault: StepFault,
-    },
-    /// There was no memory for it. The core is given up.
-    Memory,
-}
-
-impl From<AllocError> for StepEnd {
-    ghost use Rattle.std.specs.Prelude.{◌≡◌};
-    ghost use Rattle.aip_core.specs.declared.engine.StepEnd.TheVariants.{Memory};
-
-    ghost from_gives = { λ _ e. e ≡ Memory };
-
-    fn from(_: AllocError) -> Self {
-        StepEnd::Memory
-    }
-}
-
 // The domain of each router.
 fn domains_of(alloc: Global, routers: &[Router]) -> Result<Vec<u16>, AllocError>
     ensures { IfOk result (λ domains. domains.items ≡ domains_of_routers routers.now) }
 {
     routers.iter().map(|router| router.domain).collect(alloc)
-}
-
-// The ticks of an input.
-fn ticks_of(input: &Input) -> u64
-    ensures { result ≡ ticks_of input.now }
-{
-    match input {
-        Input::Tick { ticks } => *ticks,
-        _ => 0,
-    }
-}
-
-// The wiring once an input has cut or mended a link, or as it was.
-fn linked(alloc: Global, wiring: Wiring, input: &Input) -> Wiring
-    requires { LinkIsThere (length wiring.links) input.now }
-    ensures { result ≡ record wiring { links = links_with input.now wiring.links } }
-{
-    match input {
-        Input::Cut { link } => wiring.with_link(alloc, *link as usize, false),
-        Input::Mend { link } => wiring.with_link(alloc, *link as usize, true),
-        _ => wiring,
-    }
-}
-
-// Puts the flight of a reaction, if it has one, and adds the event of it to the others.
-fn put_behind(
-    alloc: Global,
-    flights: &mut Flights,
-    events: &mut Events,
-    put: Option<Flight>,
-) -> Result<(), AllocError>
-    ensures flights { OnOk result (flights.new ≡ flights.old ++ in_put put) }
-    ensures events { OnOk result (events.new ≡ events.old ++ put_event (length flights.old) put) }
-{
-    match put {
-        Some(flight) => {
-            let event = flights.put(alloc, flight)?;
-            events.push(event)?;
-            Ok(())
-        }
-        None => Ok(()),
-    }
 }
 
 impl Core {

@@ -14,9 +14,11 @@
 //! ```
 #![tactic(auto)]
 
+mod after;
 mod asking;
 mod checks;
 mod directory;
+mod ends;
 mod engine;
 mod flights;
 mod host;
@@ -36,4 +38,5 @@ mod trust;
 mod wiring;
 
 pub use aip_rules::{Entry, Flight, StepFault};
-pub use engine::{Core, StepEnd};
+pub use ends::StepEnd;
+pub use engine::Core;

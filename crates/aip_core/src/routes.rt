@@ -5,7 +5,7 @@ ghost use Rattle.domain_routes.specs.declared.Goal.{Goal as Towards};
 ghost use Rattle.domain_routes.specs.declared.GoalRoutes.{GoalRoutes as Held};
 ghost use Rattle.domain_routes.specs.declared.Edge.{Edge as Wire};
 ghost use Rattle.domain_routes.specs.Rows.{IsGoalRoutesOf};
-ghost use Rattle.domain_routes.specs.Walks.{IsSound, port_towards};
+ghost use Rattle.domain_routes.specs.Walks.{IsSoundGraph, port_towards};
 ghost use Rattle.aip_core.specs.Routes.{AreKept, AreRoutesOver};
 
 use domain_routes::{Goal, GoalRoutes, Graph};
@@ -41,7 +41,7 @@ fn port_by(
     number: u16,
     router: u16,
 ) -> Result<Option<u16>, AllocError>
-    requires { IsSound graph.now.domains.items graph.now.edges.items }
+    requires { IsSoundGraph graph.now.domains.items graph.now.edges.items }
     ensures kept { (kind : ℕ → Towards) → kind number ≡ goal
         → AreKept graph.now.domains.items graph.now.edges.items kind slots.old.items
         → AreKept graph.now.domains.items graph.now.edges.items kind slots.new.items }
@@ -79,7 +79,7 @@ impl Routes {
         router: u16,
         goal: Goal,
     ) -> Result<Option<u16>, AllocError>
-        requires sound { IsSound graph.now.domains.items graph.now.edges.items }
+        requires sound { IsSoundGraph graph.now.domains.items graph.now.edges.items }
         requires over { AreRoutesOver graph.now.domains.items graph.now.edges.items self.old }
         ensures over { AreRoutesOver graph.now.domains.items graph.now.edges.items self.new }
         ensures port { IfOk result (λ port. port ≡ port_towards graph.now.domains.items graph.now.edges.items router goal) }

@@ -1,7 +1,7 @@
 //! The links as they are, and what lies at the ports of each router.
 
 ghost use Rattle.std.specs.Prelude.{◌≡◌, ◌<◌, ◌^◌, ℕ, length, slice_get, IfOk, IfSome};
-ghost use Rattle.domain_routes.specs.Walks.{IsSound, port_towards};
+ghost use Rattle.domain_routes.specs.Walks.{IsSoundGraph, port_towards};
 ghost use Rattle.aip_core.specs.Moves.{with_link};
 ghost use Rattle.aip_core.specs.Places.{row_of};
 
@@ -65,7 +65,7 @@ impl Wiring {
         links: Vec<Edge>,
         rows: Vec<Vec<Neighbour>>,
     ) -> Wiring
-        requires sound { IsSound domains.items links.items }
+        requires sound { IsSoundGraph domains.items links.items }
         requires short { (router : ℕ) → length (row_of rows.items router) < 2 ^ 16 }
         ensures { result ≡ record { domains = domains.items; links = links.items; rows = rows.items } }
     {

@@ -16,7 +16,7 @@ use Rattle.aip_rules.specs.Texts as texts
 use Rattle.aip_core.specs.Kept.{Kept}
 use Rattle.aip_core.specs.StandsFor.{StandsFor, IsStep}
 use Rattle.aip_core.specs.Answers.{IsRefusal}
-use Rattle.aip_core.specs.declared.engine.StepEnd.TheVariants as step_end
+use Rattle.aip_core.specs.declared.ends.StepEnd.TheVariants as step_end
 use Rattle.aip_sim.specs.declared.ends.RunEnd.{RunEnd}
 use Rattle.aip_sim.specs.declared.ends.RunEnd.TheVariants as run_end
 use Rattle.aip_sim.specs.Ends.{IsCutShort, run_end_of}

@@ -19,8 +19,8 @@ use Rattle.aip_topo.specs.Sound.{AreDistinct, IsPartOf, IsRouterOf, IsSound, dom
 use Rattle.aip_topo.specs.Steps.{has_key_id, id_from, is_host, is_key_taken, is_link, is_twin, key_of, names_domain, names_host, names_router, router_place}
 use Rattle.aip_topo.specs.declared.lines.Line.{Line}
 use Rattle.aip_topo.specs.declared.steps.Draft.{Draft}
-use Rattle.aip_topo.specs.declared.entries.Entry.{Entry}
-use Rattle.aip_topo.specs.declared.entries.Entry.TheVariants as entry
+use Rattle.aip_topo.specs.declared.additions.Addition.{Addition}
+use Rattle.aip_topo.specs.declared.additions.Addition.TheVariants as addition
 use Rattle.aip_topo.specs.declared.topology.Domain.{Domain}
 use Rattle.aip_topo.specs.declared.topology.HostPart.{HostPart}
 use Rattle.aip_topo.specs.declared.topology.Key.{Key}
@@ -34,7 +34,7 @@ use Rattle.aip_topo.proofs.Placing.{all_at, all_middle, back_distinct, before_mi
 use Rattle.aip_topo.proofs.Running.{Along, Reaches, Taken, after, along_short, reach_all, reach_then}
 use Rattle.aip_topo.proofs.Meeting.{named_any}
 use Rattle.aip_topo.proofs.Soundness.{any_host_name, any_key_id, any_map}
-use Rattle.aip_topo.proofs.CanonNodes.{after_domains, after_parts, after_routers, d_name, domain_entry, domains_along, part_entry, r_name, router_entry_of, routers_along, settings_along, stage, value_entry}
+use Rattle.aip_topo.proofs.CanonNodes.{after_domains, after_parts, after_routers, d_name, domain_addition, domains_along, part_addition, r_name, router_addition_of, routers_along, settings_along, stage, value_addition}
 
 -- ## Hosts and links
 
@@ -88,18 +88,18 @@ is_there t k place below =
       found = subst is_place (sym written) (place_again r_name t.routers place it.0 differ it.1);
     }
 
-abbrev made_host : List ℕ → ℕ → Bool → Id → Key → Entry
-made_host name place guarded eid k = entry.Part (part.Host (record { name = name; router = place; guarded = guarded; eid = eid; key = k }))
+abbrev made_host : List ℕ → ℕ → Bool → Id → Key → Addition
+made_host name place guarded eid k = addition.Part (part.Host (record { name = name; router = place; guarded = guarded; eid = eid; key = k }))
 
 host_taken : (t : Topology) (ps : List Part) (x : HostPart) (there : IsThere t.routers x.router) → count_by is_host ps < 1024 → list_any (names_domain x.name) t.domains ≡ false
     → list_any (names_router x.name) t.routers ≡ false → list_any (names_host x.name) ps ≡ false → list_any (has_key_id x.eid) ps ≡ false
     → is_key_taken (stage t.settings t.domains t.routers ps).topology x.key ≡ false
-    → IsPartOf (length t.routers) (part.Host x) → Taken (stage t.settings t.domains t.routers ps) (part_line t.routers (part.Host x)) (entry.Part (part.Host x))
+    → IsPartOf (length t.routers) (part.Host x) → Taken (stage t.settings t.domains t.routers ps) (part_line t.routers (part.Host x)) (addition.Part (part.Host x))
 host_taken t ps x there few new_d new_r new_h other untaken stands =
     let topology = (stage t.settings t.domains t.routers ps).topology in
     let from = eid_origin x.key x.eid in
-    let at : ℕ → Entry = λ place. made_host x.name place x.guarded (id_from from) (key_of from) in
-    let same : at (unwrap_or (router_place (router_name t.routers x.router) t.routers) 0) ≡ entry.Part (part.Host x) =
+    let at : ℕ → Addition = λ place. made_host x.name place x.guarded (id_from from) (key_of from) in
+    let same : at (unwrap_or (router_place (router_name t.routers x.router) t.routers) 0) ≡ addition.Part (part.Host x) =
     ap (λ o. at (unwrap_or o 0)) there.found ∙ ap (λ id. made_host x.name x.router x.guarded id (key_of from)) (eid_again x.key x.eid stands.4)
     ∙ ap (made_host x.name x.router x.guarded x.eid) (eid_key_again x.key x.eid) in
     record {
@@ -125,14 +125,14 @@ names_apart rs i j first second other = false_from_ne_true (bytes_eq a b) (λ e.
     b : List ℕ
     b = router_name rs j
 
-abbrev made_link : Bool → Bool → ℕ → ℕ → Entry
-made_link a_trusts b_trusts a b = entry.Part (part.Link (record { a = a; b = b; a_trusts = a_trusts; b_trusts = b_trusts }))
+abbrev made_link : Bool → Bool → ℕ → ℕ → Addition
+made_link a_trusts b_trusts a b = addition.Part (part.Link (record { a = a; b = b; a_trusts = a_trusts; b_trusts = b_trusts }))
 
 link_taken : (t : Topology) (ps : List Part) (x : LinkPart) (first : IsThere t.routers x.a) (second : IsThere t.routers x.b) → count_by is_link ps < 4096
-    → IsPartOf (length t.routers) (part.Link x) → Taken (stage t.settings t.domains t.routers ps) (part_line t.routers (part.Link x)) (entry.Part (part.Link x))
+    → IsPartOf (length t.routers) (part.Link x) → Taken (stage t.settings t.domains t.routers ps) (part_line t.routers (part.Link x)) (addition.Part (part.Link x))
 link_taken t ps x first second few stands =
     let rs = t.routers in
-    let at : ℕ → ℕ → Entry = made_link x.a_trusts x.b_trusts in
+    let at : ℕ → ℕ → Addition = made_link x.a_trusts x.b_trusts in
     let last : Option ℕ = router_place (router_name rs x.b) rs in
     record {
       fits = (first.name, (second.name, (tt, tt)));
@@ -148,7 +148,7 @@ link_taken t ps x first second few stands =
     }
 
 host_step : (t : Topology) (k : IsSound t) (ps : List Part) (x : HostPart) (xs : List Part) → ps ++ part.Host x ∷ xs ≡ t.parts
-    → Taken (stage t.settings t.domains t.routers ps) (part_line t.routers (part.Host x)) (entry.Part (part.Host x))
+    → Taken (stage t.settings t.domains t.routers ps) (part_line t.routers (part.Host x)) (addition.Part (part.Host x))
 host_step t k ps x xs e =
     let ds : List (List ℕ) = map d_name t.domains in
     let rs : List (List ℕ) = map r_name t.routers in
@@ -181,7 +181,7 @@ host_step t k ps x xs e =
     (any_host_name x.name ps ∙ inner.1) other untaken stands
 
 link_step : (t : Topology) (k : IsSound t) (ps : List Part) (x : LinkPart) (xs : List Part) → ps ++ part.Link x ∷ xs ≡ t.parts
-    → Taken (stage t.settings t.domains t.routers ps) (part_line t.routers (part.Link x)) (entry.Part (part.Link x))
+    → Taken (stage t.settings t.domains t.routers ps) (part_line t.routers (part.Link x)) (addition.Part (part.Link x))
 link_step t k ps x xs e =
     let all_parts : List Part → Type 0 = AllByRecursion (IsPartOf (length t.routers)) in
     let stands = all_middle (IsPartOf (length t.routers)) ps (part.Link x) xs (subst all_parts (sym e) k.parts) in
@@ -189,7 +189,7 @@ link_step t k ps x xs e =
     let few = room_before is_link ps (part.Link x) xs 4096 refl (subst links_within (sym e) k.few_links) in
     link_taken t ps x (is_there t k x.a stands.0) (is_there t k x.b stands.1) few stands
 
-parts_along : (t : Topology) (k : IsSound t) (ps xs : List Part) → ps ++ xs ≡ t.parts → Along (part_line t.routers) part_entry (stage t.settings t.domains t.routers ps) xs
+parts_along : (t : Topology) (k : IsSound t) (ps xs : List Part) → ps ++ xs ≡ t.parts → Along (part_line t.routers) part_addition (stage t.settings t.domains t.routers ps) xs
 parts_along t k ps [] e = tt
 parts_along t k ps (part.Host x ∷ xs) e =
     (host_step t k ps x xs e, parts_along t k (ps ++ part.Host x ∷ []) xs (append_assoc ps (part.Host x ∷ []) xs ∙ e))
@@ -215,11 +215,11 @@ kinds (part.Link x ∷ ps) =
     omega (arith, more, hosts, links, longer)
 
 -- all are taken, to this draft
-reach_list : {X : Type 0} (says : X → Line) (entry : X → Entry) (total number start : ℕ) (draft next : Draft) (xs : List X) (rest : List ℕ) → after entry draft xs ≡ next
-    → Along says entry draft xs → start + length (lines_text says xs ++ rest) ≤ 1048576 → Reaches total number start draft (lines_text says xs ++ rest) next rest
-reach_list says entry total number start draft next xs rest e along within =
+reach_list : {X : Type 0} (says : X → Line) (addition : X → Addition) (total number start : ℕ) (draft next : Draft) (xs : List X) (rest : List ℕ) → after addition draft xs ≡ next
+    → Along says addition draft xs → start + length (lines_text says xs ++ rest) ≤ 1048576 → Reaches total number start draft (lines_text says xs ++ rest) next rest
+reach_list says addition total number start draft next xs rest e along within =
     let to : Draft → Type 0 = λ d. Reaches total number start draft (lines_text says xs ++ rest) d rest in
-    subst to e (reach_all says entry total number start draft xs rest along within)
+    subst to e (reach_all says addition total number start draft xs rest along within)
 
 -- no more than is read
 sizes_within : (ss ds rs ps : List ℕ) (domains : List Domain) (routers : List Router) (parts : List Part) → length ss ≤ 140 * 8 → length ds ≤ 140 * length domains
@@ -248,17 +248,17 @@ reached t k total =
     let by_domains = domains_along t k [] t.domains refl in
     let by_routers = routers_along t k [] t.routers refl in
     let by_parts = parts_along t k [] t.parts refl in
-    let s_size : length ss ≤ 140 * 8 = along_short value_line value_entry _ (values_of s) by_settings in
-    let d_size = along_short domain_line domain_entry _ t.domains by_domains in
-    let r_size = along_short (router_line t.domains) router_entry_of _ t.routers by_routers in
-    let p_size = along_short (part_line t.routers) part_entry _ t.parts by_parts in
+    let s_size : length ss ≤ 140 * 8 = along_short value_line value_addition _ (values_of s) by_settings in
+    let d_size = along_short domain_line domain_addition _ t.domains by_domains in
+    let r_size = along_short (router_line t.domains) router_addition_of _ t.routers by_routers in
+    let p_size = along_short (part_line t.routers) part_addition _ t.parts by_parts in
     let whole : length (ss ++ (ds ++ (rs ++ (ps ++ [])))) ≤ 1048576 =
     sizes_within ss ds rs ps t.domains t.routers t.parts s_size d_size r_size p_size k.few_domains k.few_routers k.few_hosts k.few_links in
     let start : 0 + length (ss ++ (ds ++ (rs ++ (ps ++ [])))) ≤ 1048576 = omega (arith, whole) in
-    let one = reach_list value_line value_entry total 1 0 empty_draft (stage s [] [] []) (values_of s) (ds ++ (rs ++ (ps ++ []))) refl by_settings start in
-    let two = reach_list domain_line domain_entry total one.count one.place (stage s [] [] []) (stage s t.domains [] []) t.domains (rs ++ (ps ++ [])) (after_domains s [] t.domains) by_domains one.within in
-    let three = reach_list (router_line t.domains) router_entry_of total two.count two.place (stage s t.domains [] []) (stage s t.domains t.routers []) t.routers (ps ++ []) (after_routers s t.domains [] t.routers) by_routers two.within in
-    let four = reach_list (part_line t.routers) part_entry total three.count three.place (stage s t.domains t.routers []) (stage s t.domains t.routers t.parts) t.parts [] (after_parts s t.domains t.routers [] t.parts) by_parts three.within in
+    let one = reach_list value_line value_addition total 1 0 empty_draft (stage s [] [] []) (values_of s) (ds ++ (rs ++ (ps ++ []))) refl by_settings start in
+    let two = reach_list domain_line domain_addition total one.count one.place (stage s [] [] []) (stage s t.domains [] []) t.domains (rs ++ (ps ++ [])) (after_domains s [] t.domains) by_domains one.within in
+    let three = reach_list (router_line t.domains) router_addition_of total two.count two.place (stage s t.domains [] []) (stage s t.domains t.routers []) t.routers (ps ++ []) (after_routers s t.domains [] t.routers) by_routers two.within in
+    let four = reach_list (part_line t.routers) part_addition total three.count three.place (stage s t.domains t.routers []) (stage s t.domains t.routers t.parts) t.parts [] (after_parts s t.domains t.routers [] t.parts) by_parts three.within in
     reach_then total 1 0 empty_draft (stage s [] [] []) _ (ss ++ (ds ++ (rs ++ (ps ++ [])))) (ds ++ (rs ++ (ps ++ []))) [] one
     (reach_then total one.count one.place (stage s [] [] []) (stage s t.domains [] []) _ (ds ++ (rs ++ (ps ++ []))) (rs ++ (ps ++ [])) [] two
     (reach_then total two.count two.place (stage s t.domains [] []) (stage s t.domains t.routers []) _ (rs ++ (ps ++ [])) (ps ++ []) [] three four))

@@ -18,8 +18,8 @@ use Rattle.aip_topo.specs.declared.lines.Line.TheVariants as form
 use Rattle.aip_topo.specs.declared.lines.Setting.{Setting}
 use Rattle.aip_topo.specs.declared.lines.Setting.TheVariants as setting
 use Rattle.aip_topo.specs.declared.steps.Draft.{Draft}
-use Rattle.aip_topo.specs.declared.entries.Entry.{Entry}
-use Rattle.aip_topo.specs.declared.entries.Entry.TheVariants as entry
+use Rattle.aip_topo.specs.declared.additions.Addition.{Addition}
+use Rattle.aip_topo.specs.declared.additions.Addition.TheVariants as addition
 use Rattle.aip_topo.specs.declared.topology.Domain.{Domain}
 use Rattle.aip_topo.specs.declared.topology.Key.{Key}
 use Rattle.aip_topo.specs.declared.topology.Part.{Part}
@@ -38,27 +38,27 @@ use Rattle.aip_topo.proofs.Soundness.{any_map, mapped}
 abbrev pub stage : Settings → List Domain → List Router → List Part → Draft
 stage s ds rs ps = record { topology = record { settings = s; domains = ds; routers = rs; parts = ps }; given = replicate 8 true }
 
-abbrev pub value_entry : Setting × ℕ → Entry
-value_entry pair = entry.Set pair.0 pair.1
+abbrev pub value_addition : Setting × ℕ → Addition
+value_addition pair = addition.Set pair.0 pair.1
 
-abbrev pub domain_entry : Domain → Entry
-domain_entry domain = entry.Domain domain
+abbrev pub domain_addition : Domain → Addition
+domain_addition domain = addition.Domain domain
 
-abbrev pub router_entry_of : Router → Entry
-router_entry_of router = entry.Router router
+abbrev pub router_addition_of : Router → Addition
+router_addition_of router = addition.Router router
 
-abbrev pub part_entry : Part → Entry
-part_entry p = entry.Part p
+abbrev pub part_addition : Part → Addition
+part_addition p = addition.Part p
 
-pub after_domains : (s : Settings) (ds xs : List Domain) → after domain_entry (stage s ds [] []) xs ≡ stage s (ds ++ xs) [] []
+pub after_domains : (s : Settings) (ds xs : List Domain) → after domain_addition (stage s ds [] []) xs ≡ stage s (ds ++ xs) [] []
 after_domains s ds [] = ap (λ l. stage s l [] []) (sym (append-nil ds))
 after_domains s ds (x ∷ xs) = after_domains s (ds ++ x ∷ []) xs ∙ ap (λ l. stage s l [] []) (append_assoc ds (x ∷ []) xs)
 
-pub after_routers : (s : Settings) (ds : List Domain) (rs xs : List Router) → after router_entry_of (stage s ds rs []) xs ≡ stage s ds (rs ++ xs) []
+pub after_routers : (s : Settings) (ds : List Domain) (rs xs : List Router) → after router_addition_of (stage s ds rs []) xs ≡ stage s ds (rs ++ xs) []
 after_routers s ds rs [] = ap (λ l. stage s ds l []) (sym (append-nil rs))
 after_routers s ds rs (x ∷ xs) = after_routers s ds (rs ++ x ∷ []) xs ∙ ap (λ l. stage s ds l []) (append_assoc rs (x ∷ []) xs)
 
-pub after_parts : (s : Settings) (ds : List Domain) (rs : List Router) (ps xs : List Part) → after part_entry (stage s ds rs ps) xs ≡ stage s ds rs (ps ++ xs)
+pub after_parts : (s : Settings) (ds : List Domain) (rs : List Router) (ps xs : List Part) → after part_addition (stage s ds rs ps) xs ≡ stage s ds rs (ps ++ xs)
 after_parts s ds rs ps [] = ap (λ l. stage s ds rs l) (sym (append-nil ps))
 after_parts s ds rs ps (x ∷ xs) = after_parts s ds rs (ps ++ x ∷ []) xs ∙ ap (λ l. stage s ds rs l) (append_assoc ps (x ∷ []) xs)
 
@@ -82,7 +82,7 @@ value_small s value h =
     let wide : 4294967295 < 10 ^ 15 = lit< tt in
     omega (arith, below, most, wide)
 
-set_taken : (draft : Draft) (s : Setting) (value : ℕ) → was_set s draft ≡ false → IsInRange (s, value) → Taken draft (form.Set s value) (entry.Set s value)
+set_taken : (draft : Draft) (s : Setting) (value : ℕ) → was_set s draft ≡ false → IsInRange (s, value) → Taken draft (form.Set s value) (addition.Set s value)
 set_taken draft s value new ranged =
     record {
       fits = (tt, value_small s value ranged);
@@ -90,7 +90,7 @@ set_taken draft s value new ranged =
       makes = refl;
     }
 
-pub settings_along : (s : Settings) → AllByRecursion IsInRange (values_of s) → Along value_line value_entry empty_draft (values_of s)
+pub settings_along : (s : Settings) → AllByRecursion IsInRange (values_of s) → Along value_line value_addition empty_draft (values_of s)
 settings_along s k = (
   set_taken _ setting.Accept s.accept refl k.0,
   (
@@ -116,14 +116,14 @@ settings_along s k = (
 
 -- ## Domains
 
-abbrev made_domain : List ℕ → Id → Key → Entry
-made_domain name ad k = entry.Domain (record { name = name; ad = ad; key = k })
+abbrev made_domain : List ℕ → Id → Key → Addition
+made_domain name ad k = addition.Domain (record { name = name; ad = ad; key = k })
 
 domain_taken : (s : Settings) (ds : List Domain) (x : Domain) → length ds < 64 → list_any (names_domain x.name) ds ≡ false → list_any (has_ad x.ad) ds ≡ false
-    → is_key_taken (stage s ds [] []).topology x.key ≡ false → IsDomain x → Taken (stage s ds [] []) (domain_line x) (entry.Domain x)
+    → is_key_taken (stage s ds [] []).topology x.key ≡ false → IsDomain x → Taken (stage s ds [] []) (domain_line x) (addition.Domain x)
 domain_taken s ds x few new other untaken stands =
     let from = ad_origin x.key x.ad in
-    let same : made_domain x.name (id_from from) (key_of from) ≡ entry.Domain x =
+    let same : made_domain x.name (id_from from) (key_of from) ≡ addition.Domain x =
     ap (λ id. made_domain x.name id (key_of from)) (ad_again x.key x.ad stands.4 stands.3) ∙ ap (made_domain x.name x.ad) (ad_key_again x.key x.ad) in
     record {
       fits = (stands.0, ad_fits x.key x.ad stands.1 stands.4);
@@ -150,7 +150,7 @@ r_name router = router.name
 abbrev r_eid : Router → List ℕ
 r_eid router = router.address.eid.bytes
 
-pub domains_along : (t : Topology) (k : IsSound t) (ds xs : List Domain) → ds ++ xs ≡ t.domains → Along domain_line domain_entry (stage t.settings ds [] []) xs
+pub domains_along : (t : Topology) (k : IsSound t) (ds xs : List Domain) → ds ++ xs ≡ t.domains → Along domain_line domain_addition (stage t.settings ds [] []) xs
 domains_along t k ds [] e = tt
 domains_along t k ds (x ∷ xs) e =
     let all_domains : List Domain → Type 0 = AllByRecursion IsDomain in
@@ -175,19 +175,19 @@ domains_along t k ds (x ∷ xs) e =
 
 -- ## Routers
 
-abbrev made_router : List ℕ → Bool → List ℕ → ℕ → Id → Id → Entry
+abbrev made_router : List ℕ → Bool → List ℕ → ℕ → Id → Id → Addition
 made_router name checking master place eid ad =
-    entry.Router (record { name = name; domain = place; checking = checking; master = master; address = record { ad = ad; eid = eid } })
+    addition.Router (record { name = name; domain = place; checking = checking; master = master; address = record { ad = ad; eid = eid } })
 
 router_taken : (s : Settings) (ds : List Domain) (rs : List Router) (x : Router) → length rs < 256 → list_any (names_domain x.name) ds ≡ false
     → list_any (names_router x.name) rs ≡ false → list_any (has_eid x.address.eid) rs ≡ false → IsRouterOf ds x
-    → domain_place (domain_name ds x.domain) ds ≡ Some x.domain → IsName (domain_name ds x.domain) → Taken (stage s ds rs []) (router_line ds x) (entry.Router x)
+    → domain_place (domain_name ds x.domain) ds ≡ Some x.domain → IsName (domain_name ds x.domain) → Taken (stage s ds rs []) (router_line ds x) (addition.Router x)
 router_taken s ds rs x few new_d new_r alone stands place known =
     let zeros : Id = record { bytes = replicate 20 0 } in
     let own = id_of_router x.name in
     let n = domain_name ds x.domain in
-    let at : ℕ → Id → Id → Entry = made_router x.name x.checking x.master in
-    let same : at (unwrap_or (domain_place n ds) 0) own (ad_or_zeros (unwrap_or (domain_place n ds) 0) ds) ≡ entry.Router x =
+    let at : ℕ → Id → Id → Addition = made_router x.name x.checking x.master in
+    let same : at (unwrap_or (domain_place n ds) 0) own (ad_or_zeros (unwrap_or (domain_place n ds) 0) ds) ≡ addition.Router x =
     ap (λ o. at (unwrap_or o 0) own (ad_or_zeros (unwrap_or o 0) ds)) place ∙ ap (λ o. at x.domain own (unwrap_or o zeros)) stands.2
     ∙ ap (λ eid. at x.domain eid x.address.ad) (sym stands.3) in
     record {
@@ -207,7 +207,7 @@ router_taken s ds rs x few new_d new_r alone stands place known =
 abbrev d_name_in : Option Domain → List ℕ
 d_name_in o = unwrap_or (option_map (λ domain. domain.name) o) []
 
-pub routers_along : (t : Topology) (k : IsSound t) (rs xs : List Router) → rs ++ xs ≡ t.routers → Along (router_line t.domains) router_entry_of (stage t.settings t.domains rs []) xs
+pub routers_along : (t : Topology) (k : IsSound t) (rs xs : List Router) → rs ++ xs ≡ t.routers → Along (router_line t.domains) router_addition_of (stage t.settings t.domains rs []) xs
 routers_along t k rs [] e = tt
 routers_along t k rs (x ∷ xs) e =
     let ds : List (List ℕ) = map d_name t.domains in

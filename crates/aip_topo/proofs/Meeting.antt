@@ -11,12 +11,12 @@ use Rattle.std.proofs.lemmas.Option.{cond_some, get_or_from_slice_get}
 use Rattle.aip_addr.specs.declared.ids.Id.{Id}
 use Rattle.aip_topo.specs.Lines.{IsLine}
 use Rattle.aip_topo.specs.Sound.{IsDomain, IsInRange, IsPartOf, IsRouterOf}
-use Rattle.aip_topo.specs.Steps.{ad_at, ad_or_zeros, entry_of, is_host, is_link, is_named, names_domain, names_host, names_router, router_place}
+use Rattle.aip_topo.specs.Steps.{ad_at, ad_or_zeros, addition_of, is_host, is_link, is_named, names_domain, names_host, names_router, router_place}
 use Rattle.aip_topo.specs.declared.lines.Line.{Line}
 use Rattle.aip_topo.specs.declared.lines.Line.TheVariants as line
 use Rattle.aip_topo.specs.declared.steps.Draft.{Draft}
-use Rattle.aip_topo.specs.declared.entries.Entry.{Entry}
-use Rattle.aip_topo.specs.declared.entries.Entry.TheVariants as entry
+use Rattle.aip_topo.specs.declared.additions.Addition.{Addition}
+use Rattle.aip_topo.specs.declared.additions.Addition.TheVariants as addition
 use Rattle.aip_topo.specs.declared.topology.Domain.{Domain}
 use Rattle.aip_topo.specs.declared.topology.Part.TheVariants as part
 use Rattle.aip_topo.specs.declared.topology.Router.{Router}
@@ -25,22 +25,22 @@ use Rattle.aip_topo.proofs.Accepted.{IsAccepted}
 use Rattle.aip_topo.proofs.Keys.{ad_may, ad_sized, eid_sized, origin_alone, origin_id, origin_sized, origin_version}
 use Rattle.aip_topo.proofs.Placing.{there_is}
 
--- ## What an entry is, and what it isn't yet
+-- ## What an addition is, and what it isn't yet
 
--- an entry that may stand in the topology
-abbrev pub Stands : Topology → Entry → Type 0
-Stands t (entry.Set s value) = IsInRange (s, value)
-Stands t (entry.Domain domain) = IsDomain domain
-Stands t (entry.Router router) = IsRouterOf t.domains router
-Stands t (entry.Part p) = IsPartOf (length t.routers) p
+-- an addition that may stand in the topology
+abbrev pub Stands : Topology → Addition → Type 0
+Stands t (addition.Set s value) = IsInRange (s, value)
+Stands t (addition.Domain domain) = IsDomain domain
+Stands t (addition.Router router) = IsRouterOf t.domains router
+Stands t (addition.Part p) = IsPartOf (length t.routers) p
 
 -- it has a place and its name is new
-abbrev pub IsNew : Topology → Entry → Type 0
-IsNew t (entry.Set _ _) = Unit {0}
-IsNew t (entry.Domain domain) = (length t.domains < 64) × (is_named domain.name t ≡ false)
-IsNew t (entry.Router router) = (length t.routers < 256) × (is_named router.name t ≡ false)
-IsNew t (entry.Part (part.Host host)) = (count_by is_host t.parts < 1024) × (is_named host.name t ≡ false)
-IsNew t (entry.Part (part.Link _)) = count_by is_link t.parts < 4096
+abbrev pub IsNew : Topology → Addition → Type 0
+IsNew t (addition.Set _ _) = Unit {0}
+IsNew t (addition.Domain domain) = (length t.domains < 64) × (is_named domain.name t ≡ false)
+IsNew t (addition.Router router) = (length t.routers < 256) × (is_named router.name t ≡ false)
+IsNew t (addition.Part (part.Host host)) = (count_by is_host t.parts < 1024) × (is_named host.name t ≡ false)
+IsNew t (addition.Part (part.Link _)) = count_by is_link t.parts < 4096
 
 -- a place that was found is one of the list's
 pub found_within : {A : Type 0} (p : A → Bool) (xs : List A) (k : ℕ) → position p xs ≡ Some k → k < length xs
@@ -83,11 +83,11 @@ apart a b rs i j other first second = false_from_ne_true (i == j) (λ same. both
         sym named_a ∙ named_b
 
 -- both facts
-abbrev Meets : Topology → Entry → Type 0
+abbrev Meets : Topology → Addition → Type 0
 Meets t e = Stands t e × IsNew t e
 
 -- what a line adds may stand, and is new
-pub line_meets : (draft : Draft) (l : Line) → IsLine l → IsAccepted draft l → Meets draft.topology (entry_of draft.topology l)
+pub line_meets : (draft : Draft) (l : Line) → IsLine l → IsAccepted draft l → Meets draft.topology (addition_of draft.topology l)
 line_meets draft (line.Set s value) fits met = (met.ranged, tt)
 line_meets draft (line.Domain name from) fits met =
     let may = ad_may from met.ranged in

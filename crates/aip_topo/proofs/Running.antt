@@ -8,19 +8,19 @@ use Rattle.aip_text.proofs.Lacking.{lacks_by}
 use Rattle.aip_topo.specs.Canonical.{lines_text}
 use Rattle.aip_topo.specs.Lines.{IsLine, line_text}
 use Rattle.aip_topo.specs.Reading.{RefusedLine, at_line, is_long, then_with, with_lines, with_read, with_text}
-use Rattle.aip_topo.specs.Steps.{draft_with, entry_of}
+use Rattle.aip_topo.specs.Steps.{draft_with, addition_of}
 use Rattle.aip_topo.specs.declared.lines.Line.{Line}
 use Rattle.aip_topo.specs.declared.steps.Draft.{Draft}
-use Rattle.aip_topo.specs.declared.entries.Entry.{Entry}
+use Rattle.aip_topo.specs.declared.additions.Addition.{Addition}
 use Rattle.aip_topo.proofs.Accepted.{IsAccepted, accepted_gives}
 use Rattle.aip_topo.proofs.LineLaws.{line_again}
 use Rattle.aip_topo.proofs.Shown.{is_printed, line_seen, line_shown}
 
 -- the line is well formed, no fault applies to it, and it adds this
-pub record Taken (draft : Draft) (l : Line) (e : Entry) : Type 0 where
+pub record Taken (draft : Draft) (l : Line) (e : Addition) : Type 0 where
   pub fits : IsLine l
   pub met : IsAccepted draft l
-  pub makes : entry_of draft.topology l ≡ e
+  pub makes : addition_of draft.topology l ≡ e
 
 no_return_byte : (b : ℕ) → is_printed b ≡ true → (b == 13) ≡ false
 no_return_byte b h = grind arith
@@ -32,7 +32,7 @@ no_return (b ∷ bs) h =
     or_from (b == 13) (has_carriage_return bs) (no_return_byte b parts.0) (no_return bs parts.1)
 
 -- such a line is taken at any place that isn't too far
-taken_text : (number ending : ℕ) (draft : Draft) (l : Line) (e : Entry) (k : Taken draft l e) → ending ≤ 1048576 → with_text number ending draft (line_text l) ≡ Ok (draft_with draft e)
+taken_text : (number ending : ℕ) (draft : Draft) (l : Line) (e : Addition) (k : Taken draft l e) → ending ≤ 1048576 → with_text number ending draft (line_text l) ≡ Ok (draft_with draft e)
 taken_text number ending draft l e k near =
     let text = line_text l in
     let shown = line_shown l k.fits in
@@ -55,7 +55,7 @@ pub record Reaches (total number start : ℕ) (draft : Draft) (text : List ℕ) 
   pub within : place + length rest ≤ 1048576
   pub same : with_lines total number start draft (lines_of text) ≡ with_lines total count place next (lines_of rest)
 
-reach_one : (total number start : ℕ) (draft : Draft) (l : Line) (rest : List ℕ) (e : Entry) (k : Taken draft l e) → start + length (line_text l ++ 10 ∷ rest) ≤ 1048576
+reach_one : (total number start : ℕ) (draft : Draft) (l : Line) (rest : List ℕ) (e : Addition) (k : Taken draft l e) → start + length (line_text l ++ 10 ∷ rest) ≤ 1048576
     → Reaches total number start draft (line_text l ++ 10 ∷ rest) (draft_with draft e) rest
 reach_one total number start draft l rest e k within =
     let text = line_text l in
@@ -73,14 +73,14 @@ reach_one total number start draft l rest e k within =
     }
 
 -- each line is taken by the draft that those before it made
-abbrev pub Along : {X : Type 0} → (X → Line) → (X → Entry) → Draft → List X → Type 0
-Along says entry draft [] = Unit {0}
-Along says entry draft (x ∷ xs) = Taken draft (says x) (entry x) × Along says entry (draft_with draft (entry x)) xs
+abbrev pub Along : {X : Type 0} → (X → Line) → (X → Addition) → Draft → List X → Type 0
+Along says addition draft [] = Unit {0}
+Along says addition draft (x ∷ xs) = Taken draft (says x) (addition x) × Along says addition (draft_with draft (addition x)) xs
 
 -- the draft that they make
-abbrev pub after : {X : Type 0} → (X → Entry) → Draft → List X → Draft
-after entry draft [] = draft
-after entry draft (x ∷ xs) = after entry (draft_with draft (entry x)) xs
+abbrev pub after : {X : Type 0} → (X → Addition) → Draft → List X → Draft
+after addition draft [] = draft
+after addition draft (x ∷ xs) = after addition (draft_with draft (addition x)) xs
 
 -- one run after another
 pub reach_then : (total number start : ℕ) (draft middle next : Draft) (text more rest : List ℕ) (k : Reaches total number start draft text middle more)
@@ -88,26 +88,26 @@ pub reach_then : (total number start : ℕ) (draft middle next : Draft) (text mo
 reach_then total number start draft middle next text more rest k m = record { count = m.count; place = m.place; within = m.within; same = k.same ∙ m.same }
 
 -- they are all taken
-pub reach_all : {X : Type 0} (says : X → Line) (entry : X → Entry) (total number start : ℕ) (draft : Draft) (xs : List X) (rest : List ℕ) → Along says entry draft xs
-    → start + length (lines_text says xs ++ rest) ≤ 1048576 → Reaches total number start draft (lines_text says xs ++ rest) (after entry draft xs) rest
-reach_all says entry total number start draft [] rest along within = record { count = number; place = start; within = within; same = refl }
-reach_all says entry total number start draft (x ∷ xs) rest along within =
+pub reach_all : {X : Type 0} (says : X → Line) (addition : X → Addition) (total number start : ℕ) (draft : Draft) (xs : List X) (rest : List ℕ) → Along says addition draft xs
+    → start + length (lines_text says xs ++ rest) ≤ 1048576 → Reaches total number start draft (lines_text says xs ++ rest) (after addition draft xs) rest
+reach_all says addition total number start draft [] rest along within = record { count = number; place = start; within = within; same = refl }
+reach_all says addition total number start draft (x ∷ xs) rest along within =
     let text = line_text (says x) in
     let others : List ℕ = lines_text says xs in
     let split : ((text ++ 10 ∷ []) ++ others) ++ rest ≡ text ++ 10 ∷ (others ++ rest) =
     append_assoc (text ++ 10 ∷ []) others rest ∙ append_assoc text (10 ∷ []) (others ++ rest) in
     let fits : List ℕ → Type 0 = λ w. start + length w ≤ 1048576 in
-    let next : Draft = draft_with draft (entry x) in
-    let first = reach_one total number start draft (says x) (others ++ rest) (entry x) along.0 (subst fits split within) in
-    let on = reach_all says entry total first.count first.place next xs rest along.1 first.within in
-    let from : List ℕ → Type 0 = λ w. Reaches total number start draft w (after entry next xs) rest in
-    subst from (sym split) (reach_then total number start draft next (after entry next xs) (text ++ 10 ∷ (others ++ rest)) (others ++ rest) rest first on)
+    let next : Draft = draft_with draft (addition x) in
+    let first = reach_one total number start draft (says x) (others ++ rest) (addition x) along.0 (subst fits split within) in
+    let on = reach_all says addition total first.count first.place next xs rest along.1 first.within in
+    let from : List ℕ → Type 0 = λ w. Reaches total number start draft w (after addition next xs) rest in
+    subst from (sym split) (reach_then total number start draft next (after addition next xs) (text ++ 10 ∷ (others ++ rest)) (others ++ rest) rest first on)
 
 -- the text of lines that are taken has at most 140 bytes for each
-pub along_short : {X : Type 0} (says : X → Line) (entry : X → Entry) (draft : Draft) (xs : List X) → Along says entry draft xs → length (lines_text says xs) ≤ 140 * length xs
-along_short says entry draft [] along = lit≤ tt
-along_short says entry draft (x ∷ xs) along =
+pub along_short : {X : Type 0} (says : X → Line) (addition : X → Addition) (draft : Draft) (xs : List X) → Along says addition draft xs → length (lines_text says xs) ≤ 140 * length xs
+along_short says addition draft [] along = lit≤ tt
+along_short says addition draft (x ∷ xs) along =
     let text = line_text (says x) in
     let shown = line_shown (says x) along.0.fits in
-    let rest = along_short says entry _ xs along.1 in
+    let rest = along_short says addition _ xs along.1 in
     omega (arith, length-append text (10 ∷ []), shown.short, length-append (text ++ 10 ∷ []) (lines_text says xs), rest)

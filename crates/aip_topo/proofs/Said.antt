@@ -14,9 +14,9 @@ use Rattle.aip_topo.specs.LineReading.{line_in}
 use Rattle.aip_topo.specs.Lines.{IsLine, line_text}
 use Rattle.aip_topo.specs.Meaning.{IsSaid, domain_by, domains_said, part_by, router_by, saying, settings_said, topology_said, value_behind, value_by}
 use Rattle.aip_topo.specs.Reading.{RefusedLine, empty_draft, finished, is_long, topology_of, with_lines, with_read, with_text}
-use Rattle.aip_topo.specs.Steps.{ad_or_zeros, default_of, domain_from, domain_place, entry_of, id_from, is_unknown, key_of, names_domain, names_router, router_from, router_place, settings_with, with_entry, with_line, with_setting}
-use Rattle.aip_topo.specs.declared.entries.Entry.{Entry}
-use Rattle.aip_topo.specs.declared.entries.Entry.TheVariants as entry
+use Rattle.aip_topo.specs.Steps.{ad_or_zeros, default_of, domain_from, domain_place, addition_of, id_from, is_unknown, key_of, names_domain, names_router, router_from, router_place, settings_with, with_addition, with_line, with_setting}
+use Rattle.aip_topo.specs.declared.additions.Addition.{Addition}
+use Rattle.aip_topo.specs.declared.additions.Addition.TheVariants as addition
 use Rattle.aip_topo.specs.declared.faults.TopoEnd.{TopoEnd}
 use Rattle.aip_topo.specs.declared.lines.Line.{Line}
 use Rattle.aip_topo.specs.declared.lines.Line.TheVariants as line
@@ -55,30 +55,30 @@ place_kept p xs y h =
 abbrev Known : Topology → Line → Type 0
 Known t l = is_unknown t l ≡ false
 
-known_kept : (t : Topology) (e : Entry) (l : Line) → Known t l → Known (with_entry t e) l
-known_kept t (entry.Set s value) (line.Set _ _) h = h
-known_kept t (entry.Set s value) (line.Domain _ _) h = h
-known_kept t (entry.Set s value) (line.Router _ _ _ _) h = h
-known_kept t (entry.Set s value) (line.Host _ _ _ _) h = h
-known_kept t (entry.Set s value) (line.Link _ _ _ _) h = h
-known_kept t (entry.Domain d) (line.Set _ _) h = h
-known_kept t (entry.Domain d) (line.Domain _ _) h = h
-known_kept t (entry.Domain d) (line.Router _ domain _ _) h = ap is_none (place_kept (names_domain domain) t.domains d h) ∙ h
-known_kept t (entry.Domain d) (line.Host _ _ _ _) h = h
-known_kept t (entry.Domain d) (line.Link _ _ _ _) h = h
-known_kept t (entry.Router r) (line.Set _ _) h = h
-known_kept t (entry.Router r) (line.Domain _ _) h = h
-known_kept t (entry.Router r) (line.Router _ _ _ _) h = h
-known_kept t (entry.Router r) (line.Host _ router _ _) h = ap is_none (place_kept (names_router router) t.routers r h) ∙ h
-known_kept t (entry.Router r) (line.Link a b _ _) h =
+known_kept : (t : Topology) (e : Addition) (l : Line) → Known t l → Known (with_addition t e) l
+known_kept t (addition.Set s value) (line.Set _ _) h = h
+known_kept t (addition.Set s value) (line.Domain _ _) h = h
+known_kept t (addition.Set s value) (line.Router _ _ _ _) h = h
+known_kept t (addition.Set s value) (line.Host _ _ _ _) h = h
+known_kept t (addition.Set s value) (line.Link _ _ _ _) h = h
+known_kept t (addition.Domain d) (line.Set _ _) h = h
+known_kept t (addition.Domain d) (line.Domain _ _) h = h
+known_kept t (addition.Domain d) (line.Router _ domain _ _) h = ap is_none (place_kept (names_domain domain) t.domains d h) ∙ h
+known_kept t (addition.Domain d) (line.Host _ _ _ _) h = h
+known_kept t (addition.Domain d) (line.Link _ _ _ _) h = h
+known_kept t (addition.Router r) (line.Set _ _) h = h
+known_kept t (addition.Router r) (line.Domain _ _) h = h
+known_kept t (addition.Router r) (line.Router _ _ _ _) h = h
+known_kept t (addition.Router r) (line.Host _ router _ _) h = ap is_none (place_kept (names_router router) t.routers r h) ∙ h
+known_kept t (addition.Router r) (line.Link a b _ _) h =
     let known = or_parts (is_none (router_place a t.routers)) (is_none (router_place b t.routers)) h in
     or_from (is_none (router_place a (t.routers ++ r ∷ []))) (is_none (router_place b (t.routers ++ r ∷ [])))
     (ap is_none (place_kept (names_router a) t.routers r known.0) ∙ known.0) (ap is_none (place_kept (names_router b) t.routers r known.1) ∙ known.1)
-known_kept t (entry.Part p) (line.Set _ _) h = h
-known_kept t (entry.Part p) (line.Domain _ _) h = h
-known_kept t (entry.Part p) (line.Router _ _ _ _) h = h
-known_kept t (entry.Part p) (line.Host _ _ _ _) h = h
-known_kept t (entry.Part p) (line.Link _ _ _ _) h = h
+known_kept t (addition.Part p) (line.Set _ _) h = h
+known_kept t (addition.Part p) (line.Domain _ _) h = h
+known_kept t (addition.Part p) (line.Router _ _ _ _) h = h
+known_kept t (addition.Part p) (line.Host _ _ _ _) h = h
+known_kept t (addition.Part p) (line.Link _ _ _ _) h = h
 
 -- the id of a domain that is there stays
 ad_kept : (domains : List Domain) (d : Domain) (k : ℕ) → k < length domains → ad_or_zeros k (domains ++ d ∷ []) ≡ ad_or_zeros k domains
@@ -157,7 +157,7 @@ said_by_parts ls s ds rs ps es ed er ep =
     ap by_domains ed ∙ ap (λ r. made (settings_said ls) ds r (flat_map (part_by r) ls)) er ∙ ap (λ p. made (settings_said ls) ds rs p) ep ∙ ap (λ x. made x ds rs ps) es
 
 -- one more line adds what it adds to the topology of those before
-said_more : (ls : List Line) (l : Line) → AllByRecursion (Known (topology_said ls)) ls → topology_said (ls ++ l ∷ []) ≡ with_entry (topology_said ls) (entry_of (topology_said ls) l)
+said_more : (ls : List Line) (l : Line) → AllByRecursion (Known (topology_said ls)) ls → topology_said (ls ++ l ∷ []) ≡ with_addition (topology_said ls) (addition_of (topology_said ls) l)
 said_more ls (line.Set s value) known =
     let l = line.Set s value in
     let t = topology_said ls in
@@ -200,11 +200,11 @@ follows_more : (ls : List Line) (l : Line) (draft next : Draft) → Follows ls d
 follows_more ls l draft next k h =
     let it = taken_accepted draft l next h in
     let t = draft.topology in
-    let e = entry_of t l in
+    let e = addition_of t l in
     let of_draft : Topology → Type 0 = λ x. AllByRecursion (Known x) ls in
-    let step : Topology → Topology = λ x. with_entry x (entry_of x l) in
-    let each = all_then (Known t) (Known (with_entry t e)) (known_kept t e) ls k.known in
-    let all = all_more (Known (with_entry t e)) ls l each (known_kept t e l it.met.known) in
+    let step : Topology → Topology = λ x. with_addition x (addition_of x l) in
+    let each = all_then (Known t) (Known (with_addition t e)) (known_kept t e) ls k.known in
+    let all = all_more (Known (with_addition t e)) ls l each (known_kept t e l it.met.known) in
     subst (Follows (ls ++ l ∷ [])) it.gives (record { same = said_more ls l (subst of_draft (sym k.same) k.known) ∙ ap step k.same; known = all })
 
 -- how a text that is taken is taken: it is skipped, or is the spelling of a line that is taken

@@ -18,15 +18,15 @@ use Rattle.aip_topo.specs.LineReading.{line_in}
 use Rattle.aip_topo.specs.Lines.{IsLine}
 use Rattle.aip_topo.specs.Reading.{RefusedLine, at_line, empty_draft, finished, is_long, then_with, topology_of, with_lines, with_read, with_text}
 use Rattle.aip_topo.specs.Sound.{AreDistinct, IsDomain, IsInRange, IsPartOf, IsRouterOf, IsSound, has_text, host_key_ids, host_names, domain_identifiers, names_of}
-use Rattle.aip_topo.specs.Steps.{ad_at, entry_of, has_ad, has_key_id, is_host, is_key_taken, is_link, is_named, is_twin, names_domain, names_host, names_router, with_entry, with_line, with_setting}
+use Rattle.aip_topo.specs.Steps.{ad_at, addition_of, has_ad, has_key_id, is_host, is_key_taken, is_link, is_named, is_twin, names_domain, names_host, names_router, with_addition, with_line, with_setting}
 use Rattle.aip_topo.specs.declared.faults.TopoEnd.{TopoEnd}
 use Rattle.aip_topo.specs.declared.faults.TopoFault.{TopoFault}
 use Rattle.aip_topo.specs.declared.lines.Line.{Line}
 use Rattle.aip_topo.specs.declared.lines.Setting.{Setting}
 use Rattle.aip_topo.specs.declared.lines.Setting.TheVariants as setting
 use Rattle.aip_topo.specs.declared.steps.Draft.{Draft}
-use Rattle.aip_topo.specs.declared.entries.Entry.{Entry}
-use Rattle.aip_topo.specs.declared.entries.Entry.TheVariants as entry
+use Rattle.aip_topo.specs.declared.additions.Addition.{Addition}
+use Rattle.aip_topo.specs.declared.additions.Addition.TheVariants as addition
 use Rattle.aip_topo.specs.declared.topology.Domain.{Domain}
 use Rattle.aip_topo.specs.declared.topology.HostPart.{HostPart}
 use Rattle.aip_topo.specs.declared.topology.LinkPart.{LinkPart}
@@ -165,8 +165,8 @@ count_same p parts q n other below =
     omega (arith, sum_by-append (λ x. one_if (p x)) parts (q ∷ []), none, below)
 
 -- a sound topology with what a line adds is sound
-sound_with : (t : Topology) (e : Entry) → IsSound t → Stands t e → IsNew t e → is_twin t e ≡ false → IsSound (with_entry t e)
-sound_with t (entry.Set s value) k stands new alone =
+sound_with : (t : Topology) (e : Addition) → IsSound t → Stands t e → IsNew t e → is_twin t e ≡ false → IsSound (with_addition t e)
+sound_with t (addition.Set s value) k stands new alone =
     record {
       few_domains = k.few_domains;
       few_routers = k.few_routers;
@@ -182,7 +182,7 @@ sound_with t (entry.Set s value) k stands new alone =
       key_ids_differ = k.key_ids_differ;
       identifiers_differ = k.identifiers_differ;
     }
-sound_with t (entry.Domain domain) k stands new alone =
+sound_with t (addition.Domain domain) k stands new alone =
     let apart = or_parts (list_any (has_ad domain.ad) t.domains) (is_key_taken t domain.key) alone in
     record {
       few_domains = omega (arith, length-append t.domains (domain ∷ []), new.0);
@@ -199,7 +199,7 @@ sound_with t (entry.Domain domain) k stands new alone =
       key_ids_differ = k.key_ids_differ;
       identifiers_differ = domain_more t domain k.identifiers_differ apart.1;
     }
-sound_with t (entry.Router router) k stands new alone =
+sound_with t (addition.Router router) k stands new alone =
     record {
       few_domains = k.few_domains;
       few_routers = omega (arith, length-append t.routers (router ∷ []), new.0);
@@ -215,7 +215,7 @@ sound_with t (entry.Router router) k stands new alone =
       key_ids_differ = k.key_ids_differ;
       identifiers_differ = k.identifiers_differ;
     }
-sound_with t (entry.Part (part.Host host)) k stands new alone =
+sound_with t (addition.Part (part.Host host)) k stands new alone =
     let ds : List (List ℕ) = map (λ (d : Domain). d.name) t.domains in
     let rs : List (List ℕ) = map (λ (r : Router). r.name) t.routers in
     let names : List (List ℕ) → Type 0 = λ hosts. AreDistinct (ds ++ (rs ++ hosts)) in
@@ -235,7 +235,7 @@ sound_with t (entry.Part (part.Host host)) k stands new alone =
       key_ids_differ = subst AreDistinct (sym (host_key_ids-host t.parts host)) (added (host_key_ids t.parts) (take 19 host.eid.bytes) k.key_ids_differ (sym (any_key_id host.eid t.parts) ∙ apart.0));
       identifiers_differ = host_more t host k.identifiers_differ apart.1;
     }
-sound_with t (entry.Part (part.Link link)) k stands new alone =
+sound_with t (addition.Part (part.Link link)) k stands new alone =
     let ds : List (List ℕ) = map (λ (d : Domain). d.name) t.domains in
     let rs : List (List ℕ) = map (λ (r : Router). r.name) t.routers in
     let names : List (List ℕ) → Type 0 = λ hosts. AreDistinct (ds ++ (rs ++ hosts)) in
@@ -262,7 +262,7 @@ line_keeps : (draft next : Draft) (l : Line) → IsLine l → IsSound draft.topo
 line_keeps draft next l fits k h =
     let it = taken_accepted draft l next h in
     let may = line_meets draft l fits it.met in
-    subst (λ (d : Draft). IsSound d.topology) it.gives (sound_with draft.topology (entry_of draft.topology l) k may.0 may.1 it.met.alone)
+    subst (λ (d : Draft). IsSound d.topology) it.gives (sound_with draft.topology (addition_of draft.topology l) k may.0 may.1 it.met.alone)
 
 pub at_line_ok : (number : ℕ) (r : Result Draft TopoFault) (next : Draft) → at_line number r ≡ Ok next → r ≡ Ok next
 at_line_ok number (Ok draft) next h = let same : draft ≡ next = cc in ap Ok same

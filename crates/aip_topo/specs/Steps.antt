@@ -16,8 +16,8 @@ use Rattle.aip_topo.specs.declared.lines.Origin.{Origin}
 use Rattle.aip_topo.specs.declared.lines.Origin.TheVariants as origin
 use Rattle.aip_topo.specs.declared.lines.Setting.{Setting}
 use Rattle.aip_topo.specs.declared.lines.Setting.TheVariants as setting
-use Rattle.aip_topo.specs.declared.entries.Entry.{Entry}
-use Rattle.aip_topo.specs.declared.entries.Entry.TheVariants as entry
+use Rattle.aip_topo.specs.declared.additions.Addition.{Addition}
+use Rattle.aip_topo.specs.declared.additions.Addition.TheVariants as addition
 use Rattle.aip_topo.specs.declared.steps.Draft.{Draft}
 use Rattle.aip_topo.specs.declared.topology.Settings.{Settings}
 use Rattle.aip_topo.specs.declared.topology.Domain.{Domain}
@@ -199,12 +199,12 @@ link_from routers a b a_trusts b_trusts =
     part.Link (record { a = unwrap_or (router_place a routers) 0; b = unwrap_or (router_place b routers) 0; a_trusts = a_trusts; b_trusts = b_trusts })
 
 -- what a line adds
-abbrev pub entry_of : Topology → Line → Entry
-entry_of t (line.Set s value) = entry.Set s value
-entry_of t (line.Domain name from) = entry.Domain (domain_from name from)
-entry_of t (line.Router name domain checking master) = entry.Router (router_from t.domains name domain checking master)
-entry_of t (line.Host name router guarded from) = entry.Part (host_from t.routers name router guarded from)
-entry_of t (line.Link a b a_trusts b_trusts) = entry.Part (link_from t.routers a b a_trusts b_trusts)
+abbrev pub addition_of : Topology → Line → Addition
+addition_of t (line.Set s value) = addition.Set s value
+addition_of t (line.Domain name from) = addition.Domain (domain_from name from)
+addition_of t (line.Router name domain checking master) = addition.Router (router_from t.domains name domain checking master)
+addition_of t (line.Host name router guarded from) = addition.Part (host_from t.routers name router guarded from)
+addition_of t (line.Link a b a_trusts b_trusts) = addition.Part (link_from t.routers a b a_trusts b_trusts)
 
 -- the domain has this id
 abbrev pub has_ad : Id → Domain → Bool
@@ -242,30 +242,30 @@ is_key_taken t (key.Made k) =
 
 -- a domain with the id of another, a router with the id of another, a host with the key identifier of another, a key
 -- with the identifier of another
-abbrev pub is_twin : Topology → Entry → Bool
-is_twin t (entry.Set _ _) = false
-is_twin t (entry.Domain domain) = list_any (has_ad domain.ad) t.domains || is_key_taken t domain.key
-is_twin t (entry.Router router) = list_any (has_eid router.address.eid) t.routers
-is_twin t (entry.Part (part.Host host)) = list_any (has_key_id host.eid) t.parts || is_key_taken t host.key
-is_twin t (entry.Part (part.Link _)) = false
+abbrev pub is_twin : Topology → Addition → Bool
+is_twin t (addition.Set _ _) = false
+is_twin t (addition.Domain domain) = list_any (has_ad domain.ad) t.domains || is_key_taken t domain.key
+is_twin t (addition.Router router) = list_any (has_eid router.address.eid) t.routers
+is_twin t (addition.Part (part.Host host)) = list_any (has_key_id host.eid) t.parts || is_key_taken t host.key
+is_twin t (addition.Part (part.Link _)) = false
 
 -- the topology with what a line adds, behind what is there
-abbrev pub with_entry : Topology → Entry → Topology
-with_entry t (entry.Set s value) = record t { settings = with_setting s value t.settings }
-with_entry t (entry.Domain domain) = record t { domains = t.domains ++ domain ∷ [] }
-with_entry t (entry.Router router) = record t { routers = t.routers ++ router ∷ [] }
-with_entry t (entry.Part p) = record t { parts = t.parts ++ p ∷ [] }
+abbrev pub with_addition : Topology → Addition → Topology
+with_addition t (addition.Set s value) = record t { settings = with_setting s value t.settings }
+with_addition t (addition.Domain domain) = record t { domains = t.domains ++ domain ∷ [] }
+with_addition t (addition.Router router) = record t { routers = t.routers ++ router ∷ [] }
+with_addition t (addition.Part p) = record t { parts = t.parts ++ p ∷ [] }
 
 -- which settings were set, once this line was taken
-abbrev pub given_with : List Bool → Entry → List Bool
-given_with given (entry.Set s _) = slice_set given (place_of s) true
-given_with given (entry.Domain _) = given
-given_with given (entry.Router _) = given
-given_with given (entry.Part _) = given
+abbrev pub given_with : List Bool → Addition → List Bool
+given_with given (addition.Set s _) = slice_set given (place_of s) true
+given_with given (addition.Domain _) = given
+given_with given (addition.Router _) = given
+given_with given (addition.Part _) = given
 
 -- the draft with what a line adds
-abbrev pub draft_with : Draft → Entry → Draft
-draft_with draft e = record { topology = with_entry draft.topology e; given = given_with draft.given e }
+abbrev pub draft_with : Draft → Addition → Draft
+draft_with draft e = record { topology = with_addition draft.topology e; given = given_with draft.given e }
 
 -- the draft with what a line adds, or the first fault of the line
 abbrev pub with_line : Draft → Line → Result Draft TopoFault
@@ -274,12 +274,12 @@ with_line draft l =
     else if is_twice draft l then Err fault.Twice
     else if is_unknown draft.topology l then Err fault.Unknown
     else if is_out_of_range l then Err fault.Range
-    else if is_twin draft.topology (entry_of draft.topology l) then Err fault.Twin
-    else Ok (draft_with draft (entry_of draft.topology l))
+    else if is_twin draft.topology (addition_of draft.topology l) then Err fault.Twin
+    else Ok (draft_with draft (addition_of draft.topology l))
 
--- there is room for the entry, and a setting's value isn't above its range
-abbrev pub fits : Topology → Entry → Bool
-fits t (entry.Set s value) = nat_le value (most_of s)
-fits t (entry.Domain _) = nat_lt (length t.domains) 64
-fits t (entry.Router _) = nat_lt (length t.routers) 256
-fits t (entry.Part p) = has_room t.parts p
+-- there is room for the addition, and a setting's value isn't above its range
+abbrev pub fits : Topology → Addition → Bool
+fits t (addition.Set s value) = nat_le value (most_of s)
+fits t (addition.Domain _) = nat_lt (length t.domains) 64
+fits t (addition.Router _) = nat_lt (length t.routers) 256
+fits t (addition.Part p) = has_room t.parts p

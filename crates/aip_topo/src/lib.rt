@@ -11,7 +11,7 @@
 //! ```
 #![tactic(auto)]
 
-mod entries;
+mod additions;
 mod faults;
 mod judging;
 mod line_reader;
@@ -23,7 +23,7 @@ mod topology;
 mod words;
 mod writing;
 
-pub use entries::Entry;
+pub use additions::Addition;
 pub use faults::{TopoEnd, TopoFault};
 pub use line_reader::read_line;
 pub use lines::{Line, Origin, Setting};

@@ -2,7 +2,7 @@ ghost use Rattle.std.specs.Prelude.{◌≡◌, ◌<◌, ◌≤◌, IfErr, IsTrue
 ghost use Rattle.aip_topo.specs.Reading.{Tells, at_line};
 ghost use Rattle.aip_topo.specs.Steps.{draft_with, fits, most_of, with_line, with_setting};
 
-use crate::entries::{Entry, entry_of, is_twin};
+use crate::additions::{Addition, addition_of, is_twin};
 use crate::faults::{TopoEnd, TopoFault};
 use crate::judging::{is_many, is_out_of_range, is_twice, is_unknown};
 use crate::lines::{Line, Setting};
@@ -114,11 +114,11 @@ pub(crate) fn take(
     if is_out_of_range(line) {
         return Err(refused(number, TopoFault::Range));
     }
-    let entry = entry_of(alloc, &draft.topology, line)?;
-    if is_twin(&draft.topology, &entry) {
+    let addition = addition_of(alloc, &draft.topology, line)?;
+    if is_twin(&draft.topology, &addition) {
         return Err(refused(number, TopoFault::Twin));
     }
-    add(draft, entry)?;
+    add(draft, addition)?;
     Ok(())
 }
 
@@ -129,18 +129,18 @@ pub(crate) fn refused(line: u32, fault: TopoFault) -> TopoEnd
 }
 
 // Adds to the draft what a line gave. The only error is want of memory.
-fn add(draft: &mut Draft, entry: Entry) -> Result<(), Memory>
-    requires { IsTrue (fits draft.old.topology entry) }
-    ensures { OnOk result (draft.new ≡ draft_with draft.old entry) }
+fn add(draft: &mut Draft, addition: Addition) -> Result<(), Memory>
+    requires { IsTrue (fits draft.old.topology addition) }
+    ensures { OnOk result (draft.new ≡ draft_with draft.old addition) }
 {
-    match entry {
-        Entry::Set { setting, value } => {
+    match addition {
+        Addition::Set { setting, value } => {
             draft.topology.settings = with_setting(draft.topology.settings, setting, value);
             draft.given[setting.place()] = true;
         }
-        Entry::Domain(domain) => draft.topology.domains.push(domain)?,
-        Entry::Router(router) => draft.topology.routers.push(router)?,
-        Entry::Part(part) => draft.topology.parts.push(part)?,
+        Addition::Domain(domain) => draft.topology.domains.push(domain)?,
+        Addition::Router(router) => draft.topology.routers.push(router)?,
+        Addition::Part(part) => draft.topology.parts.push(part)?,
     }
     Ok(())
 }

@@ -11,7 +11,7 @@ abbrev pub JoinsRouters : List ℕ → Edge → Type 0
 JoinsRouters domains e = (e.a < length domains) × (e.b < length domains)
 
 -- the graph has at most 256 routers, and each link joins two of them
-pub record IsSound (domains : List ℕ) (edges : List Edge) : Type 0 where
+pub record IsSoundGraph (domains : List ℕ) (edges : List Edge) : Type 0 where
   pub routers : length domains ≤ 256
   pub links : All (JoinsRouters domains) edges
 

@@ -26,7 +26,7 @@
 ghost use Rattle.std.specs.Prelude.{◌≡◌, ◌↔◌, ℕ, List, IfOk, IfSome, IsNone, IsTrue};
 ghost use Rattle.domain_routes.specs.declared.Edge.{Edge as Link};
 ghost use Rattle.domain_routes.specs.declared.Goal.{Goal as Towards};
-ghost use Rattle.domain_routes.specs.Walks.{IsSound, port_towards, DistancesAreLeast};
+ghost use Rattle.domain_routes.specs.Walks.{IsSoundGraph, port_towards, DistancesAreLeast};
 ghost use Rattle.domain_routes.specs.Walks.{IsLowestStep, HasNoStep};
 ghost use Rattle.domain_routes.specs.Table.{port_of, IsRoutesOf};
 ghost use Rattle.domain_routes.specs.Rows.{port_in, IsGoalRoutesOf};
@@ -67,7 +67,7 @@ pub struct Graph {
 impl Graph {
     /// Whether the graph has at most 256 routers, and each link joins two of them.
     pub fn is_sound(&self) -> bool
-        ensures { IsTrue result ↔ IsSound self.now.domains.items self.now.edges.items }
+        ensures { IsTrue result ↔ IsSoundGraph self.now.domains.items self.now.edges.items }
     {
         let routers = self.domains.len();
         routers <= 256
@@ -104,7 +104,7 @@ pub struct Routes {
 impl Routes {
     /// The routes of a graph of at most 256 routers. The only error is that memory runs out.
     pub fn compute(alloc: Global, graph: &Graph) -> Result<Routes, AllocError>
-        requires { IsSound graph.now.domains.items graph.now.edges.items }
+        requires { IsSoundGraph graph.now.domains.items graph.now.edges.items }
         ensures { IfOk result (λ routes.
             IsRoutesOf routes graph.now.domains.items graph.now.edges.items) }
     {
@@ -149,7 +149,7 @@ pub struct GoalRoutes {
 impl GoalRoutes {
     /// The routes to a goal over a graph of at most 256 routers. The only error is that memory runs out.
     pub fn compute(alloc: Global, graph: &Graph, goal: Goal) -> Result<GoalRoutes, AllocError>
-        requires { IsSound graph.now.domains.items graph.now.edges.items }
+        requires { IsSoundGraph graph.now.domains.items graph.now.edges.items }
         ensures { IfOk result (λ routes.
             IsGoalRoutesOf routes graph.now.domains.items graph.now.edges.items goal) }
     {

@@ -1,7 +1,7 @@
 //! The ways out of each router.
 
 ghost use Rattle.std.specs.Prelude.{◌≡◌, ◌++◌, ◌<◌, ℕ, [], IfOk, OnOk, length};
-ghost use Rattle.domain_routes.specs.Walks.{IsSound, way_if};
+ghost use Rattle.domain_routes.specs.Walks.{IsSoundGraph, way_if};
 ghost use Rattle.domain_routes.specs.Levels.{AreWays, row_of, is_at, ways_by};
 
 use crate::{Edge, Graph, Way};
@@ -61,7 +61,7 @@ fn add_link(all: &mut Vec<Vec<Way>>, edge: &Edge) -> Result<(), AllocError>
 
 /// The ways out of each router, in the order of the links.
 pub(crate) fn all_ways(alloc: Global, graph: &Graph) -> Result<Vec<Vec<Way>>, AllocError>
-    requires { IsSound graph.now.domains.items graph.now.edges.items }
+    requires { IsSoundGraph graph.now.domains.items graph.now.edges.items }
     ensures { IfOk result (λ all. AreWays graph.now.domains.items graph.now.edges.items all.items) }
 {
     let mut all = no_ways(alloc, graph.domains.len())?;

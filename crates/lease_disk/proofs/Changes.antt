@@ -4,11 +4,11 @@ use Rattle.std.specs.List.{range_with_len}
 use Rattle.std.proofs.lemmas.Bool.Decides.{nat_tests}
 use Rattle.std.proofs.lemmas.List.FromFn.{length-map-range_with_len, get_or-map-range_with_len}
 use Rattle.lease_disk.specs.Images.{Torn, ComesFrom}
-use Rattle.lease_disk.specs.Past.{Entry, Wrote, Synced, content_of, synced_of, reach_of, is_written_at, IsPending, IsImage}
+use Rattle.lease_disk.specs.Past.{Act, Wrote, Synced, content_of, synced_of, reach_of, is_written_at, IsPending, IsImage}
 use Rattle.lease_disk.specs.PastLaws.{synced_shorter, content_reached, content_is_image, still_content}
 
 -- a write that was cut short is all that an image differs by from an earlier one
-module _ (base : List ℕ) (past : List Entry) (at : ℕ) (bytes : List ℕ) (done : Bool) where
+module _ (base : List ℕ) (past : List Act) (at : ℕ) (bytes : List ℕ) (done : Bool) where
   -- whether the byte lies in the range
   abbrev inside : ℕ → Bool
   inside k = nat_le at k && nat_lt k (at + length bytes)
@@ -53,5 +53,5 @@ module _ (base : List ℕ) (past : List Entry) (at : ℕ) (bytes : List ℕ) (do
       )
 
 -- a sync adds no image
-pub synced_from : (base : List ℕ) (past : List Entry) (image : List ℕ) → IsImage base (Synced ∷ past) image → IsImage base past image
+pub synced_from : (base : List ℕ) (past : List Act) (image : List ℕ) → IsImage base (Synced ∷ past) image → IsImage base past image
 synced_from base past image is = subst (IsImage base past) (still_content base (Synced ∷ past) refl image is) (content_is_image base past)

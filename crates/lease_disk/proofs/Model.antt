@@ -6,7 +6,7 @@ use Rattle.lease_disk.specs.Call.{Call, Len, Write, Sync}
 use Rattle.lease_disk.specs.Causes.{HasCause}
 use Rattle.lease_disk.specs.Images.{overwritten, Torn, ComesFrom}
 use Rattle.lease_disk.specs.PastLaws.{length-overwritten, overwritten_before, overwritten_after}
-use Rattle.lease_disk.specs.Past.{Entry, Wrote, Synced, content_of, is_pending, IsImage}
+use Rattle.lease_disk.specs.Past.{Act, Wrote, Synced, content_of, is_pending, IsImage}
 use Rattle.lease_disk.specs.MemDisk.{DiskState, risen, refuses_changes, is_entered, fails, past_after, Leads, told_of, MayLeave}
 use Rattle.lease_disk.specs.PastLaws.{still_content}
 use Rattle.lease_disk.proofs.Changes.{torn_images, synced_from}
@@ -48,7 +48,7 @@ write_past old at bytes = elim (is_entered old at bytes) as (λ b. ((if b then W
 ]
 
 -- an image of the new disk, by the old base
-at_old : (old new : DiskState) (past : List Entry) → new.base ≡ old.base → new.past ≡ past → (image : List ℕ) → MayLeave new image → IsImage old.base past image
+at_old : (old new : DiskState) (past : List Act) → new.base ≡ old.base → new.past ≡ past → (image : List ℕ) → MayLeave new image → IsImage old.base past image
 at_old old new past base is image left = subst (λ b. IsImage b past image) base (subst (λ p. IsImage new.base p image) is left)
 
 -- what a crash leaves after a write

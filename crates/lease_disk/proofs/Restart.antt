@@ -4,28 +4,28 @@ use Rattle.std.specs.Prelude.{Some}
 use Rattle.lease_disk.specs.declared.stop.Stop.{Stop}
 use Rattle.lease_disk.specs.declared.stop.Stop.TheVariants.{Unarmed, Armed, Met}
 use Rattle.lease_disk.specs.Stop.{is_met}
-use Rattle.lease_disk.specs.Past.{Entry, content_of, IsPending, filled}
+use Rattle.lease_disk.specs.Past.{Act, content_of, IsPending, filled}
 use Rattle.lease_disk.specs.PastLaws.{still_content, length-filled, filled_pending, filled_other}
 use Rattle.lease_disk.specs.MemDisk.{DiskState, MayLeave, told_of, left_by, restarted}
 
 -- the bytes that a restart leaves, by each case of the stop
-pub left_cases : (stop : Stop) (base : List ℕ) (past : List Entry) (left : List ℕ)
+pub left_cases : (stop : Stop) (base : List ℕ) (past : List Act) (left : List ℕ)
     → ((fill : ℕ) → stop ≡ Met fill → left ≡ filled base past fill) → (is_met stop ≡ false → left ≡ content_of base past) → left ≡ left_by stop base past
 left_cases Unarmed base past left met unmet = unmet refl
 left_cases (Armed call fill) base past left met unmet = unmet refl
 left_cases (Met fill) base past left met unmet = met fill refl
 
-left_length : (stop : Stop) (base : List ℕ) (past : List Entry) → length (left_by stop base past) ≡ length (content_of base past)
+left_length : (stop : Stop) (base : List ℕ) (past : List Act) → length (left_by stop base past) ≡ length (content_of base past)
 left_length Unarmed base past = refl
 left_length (Armed call fill) base past = refl
 left_length (Met fill) base past = length-filled base past fill
 
-left_other : (stop : Stop) (base : List ℕ) (past : List Entry) (k : ℕ) → k < length (content_of base past) → ¬ IsPending base past k → get_or (left_by stop base past) k 0 ≡ get_or (content_of base past) k 0
+left_other : (stop : Stop) (base : List ℕ) (past : List Act) (k : ℕ) → k < length (content_of base past) → ¬ IsPending base past k → get_or (left_by stop base past) k 0 ≡ get_or (content_of base past) k 0
 left_other Unarmed base past k there firm = refl
 left_other (Armed call fill) base past k there firm = refl
 left_other (Met fill) base past k there firm = filled_other base past fill k there firm
 
-left_unmet : (stop : Stop) (base : List ℕ) (past : List Entry) → is_met stop ≡ false → left_by stop base past ≡ content_of base past
+left_unmet : (stop : Stop) (base : List ℕ) (past : List Act) → is_met stop ≡ false → left_by stop base past ≡ content_of base past
 left_unmet Unarmed base past unmet = refl
 left_unmet (Armed call fill) base past unmet = refl
 left_unmet (Met fill) base past unmet = absurd (cc)

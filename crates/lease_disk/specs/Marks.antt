@@ -4,10 +4,10 @@ use Rattle.std.specs.List.{list_any}
 use Rattle.lease_disk.specs.declared.mem_disk.Mark.{Mark}
 use Rattle.lease_disk.specs.declared.mem_disk.Mark.TheVariants as mark
 use Rattle.lease_disk.specs.declared.mem_disk.MemDisk.TheInside.{Inside}
-use Rattle.lease_disk.specs.Past.{Entry, Wrote, Synced, content_of, synced_of, is_written_at, kept_bytes}
+use Rattle.lease_disk.specs.Past.{Act, Wrote, Synced, content_of, synced_of, is_written_at, kept_bytes}
 
 -- the entries of these marks, the newest first, where the newest write has the last of the bytes
-abbrev pub unpacked : List Mark → List ℕ → List Entry
+abbrev pub unpacked : List Mark → List ℕ → List Act
 unpacked [] bytes = []
 unpacked (mark.Write at count done ∷ marks) bytes = Wrote at (drop (length bytes - count) bytes) done ∷ unpacked marks (take (length bytes - count) bytes)
 unpacked (mark.Sync ∷ marks) bytes = Synced ∷ unpacked marks bytes
@@ -18,7 +18,7 @@ covers k (mark.Write at count done) = nat_le at k && nat_lt k (at + count)
 covers k mark.Sync = false
 
 -- the record of the marks of a disk
-abbrev pub past_of : Inside → List Entry
+abbrev pub past_of : Inside → List Act
 past_of disk = unpacked (reverse disk.marks.items) disk.written.items
 
 -- the content is what the record gives, the last sync is known, and everything has the place that it is promised

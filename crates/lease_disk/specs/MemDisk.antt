@@ -4,7 +4,7 @@ use Rattle.std.specs.List.{list_any}
 use Rattle.lease_disk.specs.declared.stop.Stop.{Stop}
 use Rattle.lease_disk.specs.declared.stop.Stop.TheVariants.{Unarmed, Armed, Met}
 use Rattle.lease_disk.specs.Call.{Call, Len, Read, Write, Sync}
-use Rattle.lease_disk.specs.Past.{Entry, Wrote, Synced, content_of, is_pending, kept_bytes, IsImage, WasImage, filled}
+use Rattle.lease_disk.specs.Past.{Act, Wrote, Synced, content_of, is_pending, kept_bytes, IsImage, WasImage, filled}
 use Rattle.lease_disk.specs.Stop.{is_met, is_stopping, stop_after, armed}
 
 -- a disk in memory
@@ -12,7 +12,7 @@ pub record DiskState : Type 0 where
   -- the bytes that it was made with, or that its last restart left
   pub base : List ℕ
   -- what was written since, the newest first
-  pub past : List Entry
+  pub past : List Act
   -- how many calls it has had
   pub calls : ℕ
   -- the numbers of the calls that fail
@@ -67,7 +67,7 @@ fails disk (Write at bytes) = refuses_changes disk || not (is_entered disk at by
 fails disk Sync = refuses_changes disk || (is_pending disk.past && not (has_place disk 0))
 
 -- the record after the next call: an entry for each write within the room, and for a sync that succeeds while a write waits
-abbrev pub past_after : DiskState → Call → List Entry
+abbrev pub past_after : DiskState → Call → List Act
 past_after disk Len = disk.past
 past_after disk (Read at count) = disk.past
 past_after disk (Write at bytes) = if is_entered disk at bytes then Wrote at bytes (not (refuses_changes disk)) ∷ disk.past else disk.past
@@ -114,7 +114,7 @@ abbrev pub stopped_at : DiskState → ℕ → ℕ → DiskState
 stopped_at disk call fill = record disk { stop = armed call fill disk.stop }
 
 -- the bytes that a restart leaves: those that were read, but once the disk has stopped its byte wherever a write was pending
-abbrev pub left_by : Stop → List ℕ → List Entry → List ℕ
+abbrev pub left_by : Stop → List ℕ → List Act → List ℕ
 left_by Unarmed base past = content_of base past
 left_by (Armed call fill) base past = content_of base past
 left_by (Met fill) base past = filled base past fill

@@ -6,16 +6,16 @@ use Rattle.std.proofs.lemmas.Bool.Decides.{nat_tests}
 use Rattle.std.proofs.lemmas.List.{length-take, length-drop, length-replicate, get_or-append_right, get_or_append_left, get_or-drop, get_or-take, ext_get_or, get_or-replicate, nil_from_length}
 use Rattle.std.proofs.lemmas.List.FromFn.{length-map-range_with_len, get_or-map-range_with_len}
 use Rattle.lease_disk.specs.Images.{overwritten}
-use Rattle.lease_disk.specs.Past.{Entry, Wrote, Synced, content_of, synced_of, reach_of, is_written_at, is_pending_at, IsPending, IsImage, WasImage, is_pending, filled}
+use Rattle.lease_disk.specs.Past.{Act, Wrote, Synced, content_of, synced_of, reach_of, is_written_at, is_pending_at, IsPending, IsImage, WasImage, is_pending, filled}
 
 -- since the newest entry there is what a crash may leave now
-pub only_image : (base : List ℕ) (past : List Entry) (image : List ℕ) → WasImage base (length past) past image → IsImage base past image
+pub only_image : (base : List ℕ) (past : List Act) (image : List ℕ) → WasImage base (length past) past image → IsImage base past image
 only_image base [] image left = left
 only_image base (entry ∷ past) image (inl here) = here
 only_image base (entry ∷ past) image (inr earlier) = absurd (omega (arith, earlier.0))
 
 -- this moment is one of those since an earlier one
-pub now_counts : (base : List ℕ) (past : List Entry) (since : ℕ) (image : List ℕ) → IsImage base past image → WasImage base since past image
+pub now_counts : (base : List ℕ) (past : List Act) (since : ℕ) (image : List ℕ) → IsImage base past image → WasImage base since past image
 now_counts base [] since image here = here
 now_counts base (entry ∷ past) since image here = inl here
 
@@ -60,21 +60,21 @@ overwritten_inside old at bytes k inside =
     ∙ ap (λ i. get_or bytes i 0) (omega arith)
 
 -- what was synced is no longer than what is read
-pub synced_shorter : (base : List ℕ) (past : List Entry) → length (synced_of base past) ≤ length (content_of base past)
+pub synced_shorter : (base : List ℕ) (past : List Act) → length (synced_of base past) ≤ length (content_of base past)
 synced_shorter base [] = omega arith
 synced_shorter base (Wrote at bytes true ∷ past) = omega (arith, synced_shorter base past, length-overwritten (content_of base past) at bytes)
 synced_shorter base (Wrote at bytes false ∷ past) = synced_shorter base past
 synced_shorter base (Synced ∷ past) = omega arith
 
 -- what is read is no longer than what was reached
-pub content_reached : (base : List ℕ) (past : List Entry) → length (content_of base past) ≤ reach_of base past
+pub content_reached : (base : List ℕ) (past : List Act) → length (content_of base past) ≤ reach_of base past
 content_reached base [] = omega arith
 content_reached base (Wrote at bytes true ∷ past) = omega (arith, content_reached base past, length-overwritten (content_of base past) at bytes)
 content_reached base (Wrote at bytes false ∷ past) = omega (arith, content_reached base past)
 content_reached base (Synced ∷ past) = omega arith
 
 -- a byte that is not pending after a write lies outside its range, and was not pending before
-pub not_written : (base : List ℕ) (past : List Entry) (at : ℕ) (bytes : List ℕ) (done : Bool) (k : ℕ) → ¬ IsPending base (Wrote at bytes done ∷ past) k
+pub not_written : (base : List ℕ) (past : List Act) (at : ℕ) (bytes : List ℕ) (done : Bool) (k : ℕ) → ¬ IsPending base (Wrote at bytes done ∷ past) k
     → ((k < at) ⊎ (at + length bytes ≤ k)) × (k < length (synced_of base past)) × ¬ IsPending base past k
 not_written base past at bytes done k firm = (
   elim (cases_lt k at) [
@@ -86,7 +86,7 @@ not_written base past at bytes done k firm = (
 )
 
 -- bytes that no write covers read as they were synced
-pub firm_content : (base : List ℕ) (past : List Entry) (k : ℕ) → k < length (content_of base past) → ¬ IsPending base past k → get_or (content_of base past) k 0 ≡ get_or (synced_of base past) k 0
+pub firm_content : (base : List ℕ) (past : List Act) (k : ℕ) → k < length (content_of base past) → ¬ IsPending base past k → get_or (content_of base past) k 0 ≡ get_or (synced_of base past) k 0
 firm_content base [] k there firm = refl
 firm_content base (Wrote at bytes true ∷ past) k there firm =
     let out = not_written base past at bytes true k firm in
@@ -99,10 +99,10 @@ firm_content base (Wrote at bytes false ∷ past) k there firm = firm_content ba
 firm_content base (Synced ∷ past) k there firm = refl
 
 -- what is read is one of the images
-pub content_is_image : (base : List ℕ) (past : List Entry) → IsImage base past (content_of base past)
+pub content_is_image : (base : List ℕ) (past : List Act) → IsImage base past (content_of base past)
 content_is_image base past = record { no_shorter = synced_shorter base past; no_longer = content_reached base past; firm = firm_content base past }
 
-pub content_now : (base : List ℕ) (past : List Entry) (image : List ℕ) → ◌≡◌ {A = Option (List ℕ)} (Some (content_of base past)) (Some image) → IsImage base past image
+pub content_now : (base : List ℕ) (past : List Act) (image : List ℕ) → ◌≡◌ {A = Option (List ℕ)} (Some (content_of base past)) (Some image) → IsImage base past image
 content_now base past image told = subst (IsImage base past) (some_inj told) (content_is_image base past)
   where
     some_inj : {a b : List ℕ} → ◌≡◌ {A = Option (List ℕ)} (Some a) (Some b) → a ≡ b
@@ -119,36 +119,36 @@ still_only bytes image no_shorter no_longer same =
     let past : length bytes ≤ k = grind (arith, nat_tests) in omega arith)))
 
 -- where no write is pending a crash leaves what is read
-pub still_content : (base : List ℕ) (past : List Entry) → is_pending past ≡ false → (image : List ℕ) → IsImage base past image → content_of base past ≡ image
+pub still_content : (base : List ℕ) (past : List Act) → is_pending past ≡ false → (image : List ℕ) → IsImage base past image → content_of base past ≡ image
 still_content base [] none image is = still_only base image is.no_shorter is.no_longer is.firm
 still_content base (Wrote at bytes done ∷ past) none image is = absurd (cc)
 still_content base (Synced ∷ past) none image is = still_only (content_of base past) image is.no_shorter is.no_longer is.firm
 
 -- and then what is read is what was synced
-pub still_synced : (base : List ℕ) (past : List Entry) → is_pending past ≡ false → synced_of base past ≡ content_of base past
+pub still_synced : (base : List ℕ) (past : List Act) → is_pending past ≡ false → synced_of base past ≡ content_of base past
 still_synced base [] none = refl
 still_synced base (Wrote at bytes done ∷ past) none = absurd (cc)
 still_synced base (Synced ∷ past) none = refl
 
 -- and no byte was written since
-still_unwritten : (past : List Entry) → is_pending past ≡ false → (k : ℕ) → is_written_at past k ≡ false
+still_unwritten : (past : List Act) → is_pending past ≡ false → (k : ℕ) → is_written_at past k ≡ false
 still_unwritten [] none k = refl
 still_unwritten (Wrote at bytes done ∷ past) none k = absurd (cc)
 still_unwritten (Synced ∷ past) none k = refl
 
 -- after a stop and a restart the length is that of what was read
-pub length-filled : (base : List ℕ) (past : List Entry) (fill : ℕ) → length (filled base past fill) ≡ length (content_of base past)
+pub length-filled : (base : List ℕ) (past : List Act) (fill : ℕ) → length (filled base past fill) ≡ length (content_of base past)
 length-filled base past fill = length-map-range_with_len (λ k. if is_pending_at base past k then fill else get_or (content_of base past) k 0) 0 (length (content_of base past))
 
-pub filled_at : (base : List ℕ) (past : List Entry) (fill k : ℕ) → k < length (content_of base past) → get_or (filled base past fill) k 0 ≡ (if is_pending_at base past k then fill else get_or (content_of base past) k 0)
+pub filled_at : (base : List ℕ) (past : List Act) (fill k : ℕ) → k < length (content_of base past) → get_or (filled base past fill) k 0 ≡ (if is_pending_at base past k then fill else get_or (content_of base past) k 0)
 filled_at base past fill k there = get_or-map-range_with_len (λ k. if is_pending_at base past k then fill else get_or (content_of base past) k 0) 0 (length (content_of base past)) k k 0 there (omega arith)
 
 -- each byte that waited for a sync is the byte of the stop
-pub filled_pending : (base : List ℕ) (past : List Entry) (fill k : ℕ) → k < length (content_of base past) → IsPending base past k → get_or (filled base past fill) k 0 ≡ fill
+pub filled_pending : (base : List ℕ) (past : List Act) (fill k : ℕ) → k < length (content_of base past) → IsPending base past k → get_or (filled base past fill) k 0 ≡ fill
 filled_pending base past fill k there pending = filled_at base past fill k there ∙ ap (λ b. if b then fill else get_or (content_of base past) k 0) pending
 
 -- and each other byte stays
-pub filled_other : (base : List ℕ) (past : List Entry) (fill k : ℕ) → k < length (content_of base past) → ¬ IsPending base past k → get_or (filled base past fill) k 0 ≡ get_or (content_of base past) k 0
+pub filled_other : (base : List ℕ) (past : List Act) (fill k : ℕ) → k < length (content_of base past) → ¬ IsPending base past k → get_or (filled base past fill) k 0 ≡ get_or (content_of base past) k 0
 filled_other base past fill k there firm = filled_at base past fill k there ∙ ap (λ b. if b then fill else get_or (content_of base past) k 0) (not_true (is_pending_at base past k) firm)
   where
     not_true : (b : Bool) → ¬ (b ≡ true) → b ≡ false
@@ -156,7 +156,7 @@ filled_other base past fill k there firm = filled_at base past fill k there ∙ 
     not_true false never = refl
 
 -- where one write alone was pending, it is the bytes before that write with the byte of the stop over its range
-module _ (base : List ℕ) (past : List Entry) (at : ℕ) (bytes : List ℕ) (done : Bool) (fill : ℕ) (none : is_pending past ≡ false) (fits : at + length bytes ≤ length (content_of base past)) where
+module _ (base : List ℕ) (past : List Act) (at : ℕ) (bytes : List ℕ) (done : Bool) (fill : ℕ) (none : is_pending past ≡ false) (fits : at + length bytes ≤ length (content_of base past)) where
   over_length : length (content_of base (Wrote at bytes done ∷ past)) ≡ length (content_of base past)
   over_length = elim done as (λ d. length (if d then overwritten (content_of base past) at bytes else content_of base past) ≡ length (content_of base past)) [
     | true ↦ omega (arith, length-overwritten (content_of base past) at bytes)

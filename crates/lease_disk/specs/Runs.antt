@@ -8,7 +8,7 @@ use Rattle.lease_disk.specs.declared.stop.Stop.TheVariants.{Unarmed, Armed, Met}
 use Rattle.lease_disk.specs.Call.{Call, Len, Read, Write, Sync}
 use Rattle.lease_disk.specs.Calls.{Ran, firm_calls}
 use Rattle.lease_disk.specs.Images.{overwritten}
-use Rattle.lease_disk.specs.Past.{Entry, Wrote, Synced, content_of, is_pending, kept_bytes, filled}
+use Rattle.lease_disk.specs.Past.{Act, Wrote, Synced, content_of, is_pending, kept_bytes, filled}
 use Rattle.lease_disk.specs.PastLaws.{filled_last}
 use Rattle.lease_disk.specs.Stop.{is_met, is_stopping, stop_after, stops_within}
 use Rattle.lease_disk.specs.MemDisk.{DiskState, risen, is_listed, refuses_looks, refuses_changes, has_place, is_entered, fails, past_after, stop_after_call, after_call, Leads, reserved, left_by, restarted}
@@ -80,7 +80,7 @@ pub record IsReadyFor (calls : List Call) (disk : DiskState) : Type 0 where
   pub bytes : kept_bytes disk.past + bytes_in calls ≤ disk.byte_place
 
 -- the record after these calls, where none fails but at a stop: the write at which the disk stops is not done
-abbrev pub run_past : Stop → List Call → List Entry → List Entry
+abbrev pub run_past : Stop → List Call → List Act → List Act
 run_past stop [] past = past
 run_past stop (Len ∷ calls) past = run_past stop calls past
 run_past stop (Read at count ∷ calls) past = run_past stop calls past
@@ -341,7 +341,7 @@ opening_is_served disk at count none unarmed still =
         (works, looked disk Sync works (ap (λ b. if b && not (fails disk Sync) then Synced ∷ disk.past else disk.past) still) (ap stop_after unarmed ∙ sym unarmed))
 
 -- what stands for a firm write at which the disk stops: before the bytes are done, or before they are synced
-stopped_past : (at : ℕ) (bytes : List ℕ) (past : List Entry) (call fill : ℕ) → 1 ≤ call → call ≤ 2
+stopped_past : (at : ℕ) (bytes : List ℕ) (past : List Act) (call fill : ℕ) → 1 ≤ call → call ≤ 2
     → (done : Bool) × (run_past (Armed call fill) (firm_calls at bytes) past ≡ Wrote at bytes done ∷ past) × (run_stop (Armed call fill) (firm_calls at bytes) ≡ Met fill)
 stopped_past at bytes past call fill first last =
     elim (one_or_two call first last) [

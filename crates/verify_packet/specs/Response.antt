@@ -31,12 +31,12 @@ abbrev pub signature_in : List ℕ → List ℕ
 signature_in body = drop 56 (drop 154 body)
 
 -- two addresses are the same
-abbrev pub is_address : Address → Address → Bool
-is_address a b = bytes_eq a.ad.bytes b.ad.bytes && bytes_eq a.eid.bytes b.eid.bytes
+abbrev pub is_same_address : Address → Address → Bool
+is_same_address a b = bytes_eq a.ad.bytes b.ad.bytes && bytes_eq a.eid.bytes b.eid.bytes
 
 -- the challenge was this router's, and asked this source
 unfoldable pub is_asked : RouterKey → Address → Asked → Bool
-is_asked router source asked = is_address asked.router router.address && is_address asked.source source
+is_asked router source asked = is_same_address asked.router router.address && is_same_address asked.source source
 
 -- the current epoch is that of the challenge, or the next
 unfoldable pub is_current : ℕ → ℕ → Bool

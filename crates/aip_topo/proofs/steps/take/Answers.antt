@@ -9,4 +9,4 @@ add-requires c =
     let topology = c.args.draft.now.topology in
     let few = sym c.is_many.ensures ∙ c.if-is_many.false in
     let ranged = sym c.is_out_of_range.ensures ∙ c.if-is_out_of_range.false in
-    subst (λ e. IsTrue (fits topology e)) (sym c.in_ok-entry.ensures) (line_fits topology c.args.line.now few ranged)
+    subst (λ e. IsTrue (fits topology e)) (sym c.in_ok-addition.ensures) (line_fits topology c.args.line.now few ranged)

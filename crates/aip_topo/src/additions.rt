@@ -1,6 +1,6 @@
 ghost use Rattle.std.specs.Prelude.{◌≡◌, false, IfOk, unwrap_or};
 ghost use Rattle.std.specs.List.{list_any};
-ghost use Rattle.aip_topo.specs.Steps.{ad_or_zeros, domain_place, entry_of, has_ad, has_eid, has_key_id, id_from, is_domain_identified, is_host_identified, is_identified, is_key_taken, is_no_ad, is_no_eid, is_out_of_range, is_twin, key_of, router_at, router_place};
+ghost use Rattle.aip_topo.specs.Steps.{ad_or_zeros, domain_place, addition_of, has_ad, has_eid, has_key_id, id_from, is_domain_identified, is_host_identified, is_identified, is_key_taken, is_no_ad, is_no_eid, is_out_of_range, is_twin, key_of, router_at, router_place};
 
 use crate::judging::{domain_place, router_place};
 use crate::lines::{Line, Origin, Setting};
@@ -12,7 +12,7 @@ use std::alloc::Global;
 
 /// What a line adds to a topology, with its id and its key.
 #[derive(Drop)]
-pub enum Entry {
+pub enum Addition {
     /// The value of a setting.
     Set {
         /// The setting.
@@ -111,22 +111,26 @@ fn router_or_first(routers: &Routers, name: &Name) -> u16
 }
 
 // What the line adds. The only error is want of memory.
-pub(crate) fn entry_of(alloc: Global, topology: &Topology, line: &Line) -> Result<Entry, Memory>
+pub(crate) fn addition_of(
+    alloc: Global,
+    topology: &Topology,
+    line: &Line,
+) -> Result<Addition, Memory>
     requires { is_out_of_range line.now ≡ false }
-    ensures { IfOk result (λ entry. entry ≡ entry_of topology.now line.now) }
+    ensures { IfOk result (λ addition. addition ≡ addition_of topology.now line.now) }
 {
     match line {
-        Line::Set { setting, value } => Ok(Entry::Set {
+        Line::Set { setting, value } => Ok(Addition::Set {
             setting: *setting,
             value: *value,
         }),
-        Line::Domain { name, origin } => Ok(Entry::Domain(domain_of(alloc, *name, origin)?)),
+        Line::Domain { name, origin } => Ok(Addition::Domain(domain_of(alloc, *name, origin)?)),
         Line::Router {
             name,
             domain,
             checking,
             master,
-        } => Ok(Entry::Router(router_of(&topology.domains, name, domain, *checking, master))),
+        } => Ok(Addition::Router(router_of(&topology.domains, name, domain, *checking, master))),
         Line::Host {
             name,
             router,
@@ -134,7 +138,7 @@ pub(crate) fn entry_of(alloc: Global, topology: &Topology, line: &Line) -> Resul
             origin,
         } => {
             let keyed = keyed(alloc, origin)?;
-            Ok(Entry::Part(Part::Host(HostPart {
+            Ok(Addition::Part(Part::Host(HostPart {
                 name: *name,
                 router: router_or_first(&topology.routers, router),
                 guarded: *guarded,
@@ -147,7 +151,7 @@ pub(crate) fn entry_of(alloc: Global, topology: &Topology, line: &Line) -> Resul
             b,
             a_trusts,
             b_trusts,
-        } => Ok(Entry::Part(Part::Link(LinkPart {
+        } => Ok(Addition::Part(Part::Link(LinkPart {
             a: router_or_first(&topology.routers, a),
             b: router_or_first(&topology.routers, b),
             a_trusts: *a_trusts,
@@ -228,7 +232,7 @@ fn is_key_taken(topology: &Topology, key: &Key) -> bool
 }
 
 fn is_part_twin(topology: &Topology, part: &Part) -> bool
-    ensures { result ≡ is_twin topology.now (Entry.Part part.now) }
+    ensures { result ≡ is_twin topology.now (Addition.Part part.now) }
 {
     match part {
         Part::Host(host) => {
@@ -239,16 +243,16 @@ fn is_part_twin(topology: &Topology, part: &Part) -> bool
     }
 }
 
-pub(crate) fn is_twin(topology: &Topology, entry: &Entry) -> bool
-    ensures { result ≡ is_twin topology.now entry.now }
+pub(crate) fn is_twin(topology: &Topology, addition: &Addition) -> bool
+    ensures { result ≡ is_twin topology.now addition.now }
 {
-    match entry {
-        Entry::Set { .. } => false,
-        Entry::Domain(domain) => {
+    match addition {
+        Addition::Set { .. } => false,
+        Addition::Domain(domain) => {
             is_ad_taken(topology.domains.as_slice(), &domain.ad)
                 || is_key_taken(topology, &domain.key)
         }
-        Entry::Router(router) => is_eid_taken(topology.routers.as_slice(), &router.address.eid),
-        Entry::Part(part) => is_part_twin(topology, part),
+        Addition::Router(router) => is_eid_taken(topology.routers.as_slice(), &router.address.eid),
+        Addition::Part(part) => is_part_twin(topology, part),
     }
 }
