@@ -13,7 +13,7 @@ use Rattle.lms_core.specs.Verify.{is_valid_signature}
 use Rattle.verify_packet.specs.declared.challenges.RouterKey.{RouterKey}
 use Rattle.verify_packet.specs.declared.responses.Checked.TheVariants as checked
 use Rattle.verify_packet.specs.Challenge.{Asked, asked_in, epoch_at, tag_of}
-use Rattle.verify_packet.specs.Response.{challenge_in, has_tag, is_same_address as is_asked_address, is_asked, is_current, key_in, response_text_of, response_verdict, signature_in}
+use Rattle.verify_packet.specs.Response.{challenge_in, has_tag, is_same_address, is_asked, is_current, key_in, response_text_of, response_verdict, signature_in}
 use Rattle.aip_rules.specs.declared.Entry.{Entry}
 use Rattle.aip_rules.specs.Nodes.{neighbours_of}
 use Rattle.aip_rules.specs.Router.{router_key}
@@ -61,7 +61,7 @@ passes false true true true false true true from source at port e = record {
 asked_so : (router : RouterKey) (source : Address) (asked : Asked) → is_asked router source asked ≡ true → (asked.router ≡ router.address) × (asked.source ≡ source)
 unfolding is_asked
 asked_so router source asked e =
-    let parts = and_parts (is_asked_address asked.router router.address) (is_asked_address asked.source source) e in
+    let parts = and_parts (is_same_address asked.router router.address) (is_same_address asked.source source) e in
     (same_addresses asked.router router.address parts.0, same_addresses asked.source source parts.1)
 
 -- an epoch that is the current one, or the one before
