@@ -9,6 +9,7 @@ use Rattle.std.specs.Cmp.{IsEquivalence, IsTotalOrder}
 use Rattle.std.specs.Ordering.{is_eq, is_lt, ordering_reverse}
 use Rattle.aip_addr.specs.declared.ids.KeyId.{KeyId}
 use Rattle.shutoff_filter.specs.declared.entries.Entry.{Entry}
+use Rattle.shutoff_filter.specs.Listed.{AllAfter, IsInOrder, IsListOf}
 use Rattle.shutoff_filter.specs.Entries.{SameInForce, greatest, in_force, is_before, is_covered, is_key, is_withheld, key_cmp, lasts, others_in_force, with_greatest, withholds}
 
 -- the entry at a place of a list
@@ -52,16 +53,6 @@ comes_after a b before apart = ap is_lt (key_order.antisymm b a) ∙ by (key_cmp
 
 before_all : (a b c : KeyId) → is_before a b ≡ true → is_before b c ≡ true → is_before a c ≡ true
 before_all a b c first second = ap is_lt (key_order.trans a b c (is_less (key_cmp a b) first) (is_less (key_cmp b c) second))
-
--- every key of the list comes after this one
-abbrev AllAfter : KeyId → List Entry → Type 0
-AllAfter key [] = Unit {0}
-AllAfter key (e ∷ es) = (is_before key e.to ≡ true) × AllAfter key es
-
--- all entries are in force, and ascend by key
-abbrev IsInOrder : ℕ → List Entry → Type 0
-IsInOrder now [] = Unit {0}
-IsInOrder now (e ∷ es) = (lasts now e ≡ true) × AllAfter e.to es × IsInOrder now es
 
 after_less : (a b : KeyId) (es : List Entry) → is_before a b ≡ true → AllAfter b es → AllAfter a es
 after_less a b [] before after = tt
@@ -198,6 +189,10 @@ in_order now (e ∷ es) = by (lasts now e) refl (in_order now es)
     by : (b : Bool) → lasts now e ≡ b → IsInOrder now (in_force now es) → IsInOrder now (if b then with_greatest e (in_force now es) else in_force now es)
     by true is rest = in_order-with e now (in_force now es) is rest
     by false is rest = rest
+
+-- the keys in force are listed
+pub listed : (now : ℕ) (entries : List Entry) → IsListOf now entries (in_force now entries)
+listed now entries = record { order = in_order now entries; same = λ to time later. sym (withheld_in_force now time to entries later) }
 
 -- the head of a list in order is in force
 head_there : (now : ℕ) (e : Entry) (es : List Entry) → lasts now e ≡ true → is_withheld now e.to (e ∷ es) ≡ true

@@ -7,6 +7,7 @@ pub mod ImageLaws
 pub mod InForce
 pub mod Judged
 pub mod Keeping
+pub mod Listed
 pub mod Opened
 pub mod Places
 pub mod SlotLaws
