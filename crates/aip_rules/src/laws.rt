@@ -22,8 +22,8 @@ pub fn each_forward_is_justified()
     ensures { HoldsOfAll ForwardsAreJustified }
 {}
 
-/// Neighbours are trusted by signed records: on every trace over a sound topology, a frame that comes over a link is passed
-/// on for trust from a neighbour of the router's own domain exactly where the router's end of the link is marked; and from one
+/// Neighbours are trusted by signed records: on every trace over a sound topology, the verdict on a source, where a frame comes
+/// over a link, is trusted from a neighbour of the router's own domain exactly where the router's end of the link is marked; and from one
 /// of another domain exactly where its end is marked and a peering record of the router's domain for the neighbour's is kept
 /// and in force. That is so exactly where such a record, signed by the router's domain, was published, is in force, and
 /// is replaced by no other.

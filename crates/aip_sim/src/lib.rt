@@ -1,8 +1,8 @@
 //! Runs of a schedule over a topology, line by line.
 //!
 //! `run` reads the topology, then takes the schedule a line at a time: it reads the line, steps the core, and writes the
-//! lines of the input and its events before it asks for the next. It keeps nothing that grows but the flights of the core,
-//! and hands that core back.
+//! lines of the input and its events before it asks for the next. It keeps no trace and no text, but the core alone, and hands
+//! that back.
 //!
 //! ```text
 //! let (end, core) = run(alloc, &mut shelf, "topo.txt", "sched.txt", &mut out);

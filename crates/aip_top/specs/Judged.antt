@@ -18,7 +18,7 @@ refusal_over (Err refused) = Some (status.Topology refused.line refused.fault)
 abbrev pub refusal_of : List ℕ → Option Status
 refusal_of text = refusal_over (topology_of text)
 
--- the status by which the topology text ends the command, whatever else there is
+-- the status by which the topology text by itself ends the command, if it does
 abbrev pub end_by : Command → List ℕ → Option Status
 end_by (Run files) text = option_map status_of_run (run_end_by text)
 end_by (Address topology) text = refusal_of text

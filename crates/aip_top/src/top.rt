@@ -51,7 +51,7 @@ pub fn aip<S: Shelf, K: Sink, D: Disk>(
     ensures write_fault { HasCause (result.0 ≡ Status.WriteFault) (K.faults out.old) (K.faults out.new) }
     ensures disk_fault { HasCause (result.0 ≡ Status.DiskFault) (D.faults disk) (D.faults result.1) }
 
-    // A topology text that by itself ends the command ends it so, whatever all else does.
+    // A topology text that by itself ends the command ends it so, but for want of memory and a counted fault of reading it.
     ensures topology { IfSome (spelled words.now) (λ command. IfSome (S.text shelf.old (topology_in command)) (λ told.
         Judges (end_by command told)
         (Rose (S.faults shelf.old (topology_in command)) (S.faults shelf.new (topology_in command)))
@@ -65,7 +65,7 @@ pub fn aip<S: Shelf, K: Sink, D: Disk>(
         (Rose (K.faults out.old) (K.faults out.new)) result.0 result.2 (K.taken out.old) (K.taken out.new))) }
     // Whatever the answer, the trace that the rules give for the two files of a run keeps what is promised: every packet that a
     // checking router forwarded, challenges excepted, has one of the four causes in earlier events; a guarded host withholds
-    // exactly its packets under a shut-off in force; and no leaf signs twice.
+    // exactly its packets under a shut-off in force, and each shut-off is one that it had to obey; and no leaf signs twice.
     ensures justified { OfRun (spelled words.now) (λ files. OfTexts (S.text shelf.old) files (HoldsOfRun ForwardsAreJustified)) }
     ensures silent { OfRun (spelled words.now) (λ files. OfTexts (S.text shelf.old) files (HoldsOfRun GuardsAreSilent)) }
     ensures leaf_once { OfRun (spelled words.now) (λ files. OfTexts (S.text shelf.old) files (HoldsOfRun NoLeafSignsTwice)) }
