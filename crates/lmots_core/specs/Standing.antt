@@ -1,5 +1,5 @@
--- Where the chains of a leaf stand that go on side by side. Chain k goes from number from[k] up to number to[k], and `goal k` is
--- what it ends with.
+-- Where the chains of a leaf stand that go on side by side. Chain k goes from number from[k] up to number to[k], and
+-- `goal k` is what it ends with.
 use Rattle.std.specs.Prelude.{◌≡◌, ℕ, ◌+◌, ◌-◌, ◌<◌, ◌≤◌, List, [], ◌++◌, length, slice_index, slice_index_or}
 use Rattle.std.specs.Int.{w16, to_be_bytes}
 use Rattle.sha2.specs.Sha256.{digest_bytes}
@@ -20,7 +20,8 @@ rest p a b j x = steps p (a + (j - a)) (b - (a + (j - a))) x
 -- chain k stands before step j: the steps that are left lead to its goal
 abbrev pub StandsAt : List ℕ → List ℕ → List ℕ → (ℕ → List ℕ) → List (List ℕ) → ℕ → ℕ → Type 0
 StandsAt p from to goal values j k =
-    rest (p ++ to_be_bytes w16 k) (slice_index from k) (slice_index to k) j (digest_bytes (slice_index_or values k []) 8) ≡ goal k
+    rest (p ++ to_be_bytes w16 k) (slice_index from k) (slice_index to k) j (digest_bytes (slice_index_or values k []) 8)
+    ≡ goal k
 
 -- all chains stand before step j
 abbrev pub Stand : List ℕ → List ℕ → List ℕ → (ℕ → List ℕ) → ℕ → List (List ℕ) → Type 0

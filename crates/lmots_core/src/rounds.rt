@@ -1,5 +1,5 @@
-// Chains of unequal lengths, four at a time. They are taken on by the numbers of their steps: for each number, the chains that
-// take that step share the four lanes. Chain k goes from number `from[k]` up to number `to[k]`.
+// Chains of unequal lengths, four at a time. They are taken on by the numbers of their steps: for each number, the chains
+// that take that step share the four lanes. Chain k goes from number `from[k]` up to number `to[k]`.
 
 ghost use Rattle.std.specs.Prelude.{◌≡◌, ℕ, ◌+◌, ◌-◌, ◌^◌, ◌<◌, ◌≤◌, List, [], ◌∷◌, ◌++◌, length, min, slice_index, slice_index_or};
 ghost use Rattle.std.specs.Int.{w16, to_be_bytes};
