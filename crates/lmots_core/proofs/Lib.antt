@@ -4,3 +4,4 @@ pub mod Sizes
 pub mod Joined
 pub mod Accepted
 pub mod PaddedBlock
+pub mod Standing

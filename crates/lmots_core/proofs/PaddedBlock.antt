@@ -15,7 +15,7 @@ each_five P a b c d e (suc (suc (suc (suc zero)))) h = e
 each_five P a b c d e (suc (suc (suc (suc (suc n))))) h = absurd (omega arith)
 
 -- what holds of each of four words
-each_four : (P : ℕ → Type 0) → P 0 → P 1 → P 2 → P 3 → (k : ℕ) → k < 4 → P k
+pub each_four : (P : ℕ → Type 0) → P 0 → P 1 → P 2 → P 3 → (k : ℕ) → k < 4 → P k
 each_four P a b c d zero h = a
 each_four P a b c d (suc zero) h = b
 each_four P a b c d (suc (suc zero)) h = c

@@ -1,3 +1,4 @@
 pub mod Parameters
 pub mod Chains
 pub mod Lanes
+pub mod Standing

@@ -63,17 +63,6 @@ fn step(block: &mut [u8; BLOCK_LEN], j: u8)
     put_value(block, &digest);
 }
 
-// Makes the steps from number `from` up to `to`.
-fn run(block: &mut [u8; BLOCK_LEN], from: u8, to: u8)
-    requires { from ≤ to }
-    ensures chain { take 22 block.new ≡ take 22 block.old }
-    ensures value { drop 23 block.new ≡ steps (take 22 block.old) from (to - from) (drop 23 block.old) }
-{
-    'steps: for j in from..to {
-        step(block, j);
-    }
-}
-
 // The value that the block holds.
 fn value_of(block: &[u8; BLOCK_LEN]) -> [u8; 32]
     ensures { result ≡ drop 23 block.now }
@@ -90,17 +79,5 @@ pub(crate) fn secret(block: &mut [u8; BLOCK_LEN], i: u16, seed: &[u8; 32]) -> [u
 {
     begin(block, i, seed);
     step(block, 0xff);
-    value_of(block)
-}
-
-// Chain `i` from `value`, which has the number `from`, up to the number `to`.
-pub(crate) fn chain(block: &mut [u8; BLOCK_LEN], i: u16, from: u8, to: u8, value: &[u8]) -> [u8; 32]
-    requires ordered { from ≤ to }
-    requires whole { length value.now ≡ 32 }
-    ensures leaf { take 20 block.new ≡ take 20 block.old }
-    ensures value { result ≡ steps (take 20 block.old ++ to_be_bytes w16 i) from (to - from) value.now }
-{
-    begin(block, i, value);
-    run(block, from, to);
     value_of(block)
 }

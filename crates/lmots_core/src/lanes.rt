@@ -63,7 +63,7 @@ fn block_words(head: &[u32; 5], chains: u32x4, number: u8, value: [u32x4; 8]) ->
 }
 
 // One step of four chains of a leaf.
-fn chain_step(head: [u32; 5], chains: u32x4, number: u8, value: [u32x4; 8]) -> [u32x4; 8]
+pub(crate) fn chain_step(head: [u32; 5], chains: u32x4, number: u8, value: [u32x4; 8]) -> [u32x4; 8]
     requires { (j : ℕ) → j < 4 → slice_index chains j < 2 ^ 16 }
     ensures { (j : ℕ) → j < 4 → (p : List ℕ) → IsHead head p → digest_bytes (value_in j result) 8
         ≡ step (p ++ to_be_bytes w16 (slice_index chains j)) number (digest_bytes (value_in j value) 8) }
@@ -86,7 +86,7 @@ fn run(head: [u32; 5], chains: u32x4, to: u8, start: [u32x4; 8]) -> [u32x4; 8]
 }
 
 // The words of the first 20 bytes of a leaf's block.
-fn head_words(block: &[u8; 55]) -> [u32; 5]
+pub(crate) fn head_words(block: &[u8; 55]) -> [u32; 5]
     ensures { IsHead result (take 20 block.now) }
 {
     [
@@ -99,7 +99,7 @@ fn head_words(block: &[u8; 55]) -> [u32; 5]
 }
 
 // The numbers of four chains from `first` on.
-fn chain_numbers(first: u32) -> u32x4
+pub(crate) fn chain_numbers(first: u32) -> u32x4
     requires { first < 2 ^ 15 }
     ensures { (j : ℕ) → j < 4 → slice_index result j ≡ first + j }
 {

@@ -18,16 +18,20 @@ ghost use Rattle.sha2.specs.Hashers.{Holds256};
 ghost use Rattle.lmots_core.specs.Parameters.{chains_of, code_of, signature_len_of};
 ghost use Rattle.lmots_core.specs.Chains.{candidate_of, candidate_under, joined, key_of, message_hash, prefix, public_of, randomizer_of, signature_of, signed_part, whole_width_in};
 
-use digits::{digit, with_checksum};
 pub use parameters::Width;
+use parts::MOST_CHAINS;
 use sha2::{Digest, Sha256};
+use values::bytes_of;
 
 mod chains;
 mod digits;
 mod lanes;
 mod parameters;
+mod parts;
+mod rounds;
 #[cfg(test)]
 mod tests;
+mod values;
 
 // What stands in the place of a chain's number in the hash of the chains' ends, and of a message
 // (RFC 8554, sections 4.3 and 4.5).
@@ -105,12 +109,11 @@ fn put_parts(width: Width, seed: &[u8; 32], id: &[u8; 16], q: u32, hash: &[u8; 3
     requires { length out.old ≡ signature_len_of width }
     ensures { out.new ≡ take 36 out.old ++ joined (signed_part width seed.now id.now q hash.now) (chains_of width) }
 {
-    let mut block = chains::leaf_block(id, q);
-    let digits = with_checksum(width, hash);
+    let mut values = [[0; 8]; MOST_CHAINS];
+    let (values, _) = values.split_at_mut(width.chains());
+    parts::sign_values(width, seed, id, q, hash, values);
     'chains: for i in 0..width.chains() {
-        let start = chains::secret(&mut block, i as u16, seed);
-        let part = chains::chain(&mut block, i as u16, 0, digit(width, &digits, i), &start);
-        put(out, PLACE_OF_PARTS + 32 * i, &part);
+        put(out, PLACE_OF_PARTS + 32 * i, &bytes_of(&values[i]));
     }
 }
 
@@ -157,15 +160,12 @@ fn candidate_under(
 {
     let randomizer = &signature[PLACE_OF_RANDOMIZER..PLACE_OF_PARTS];
     let hash = message_hash(id, q, randomizer, message);
-    let digits = with_checksum(width, &hash);
-    let mut block = chains::leaf_block(id, q);
+    let mut values = [[0; 8]; MOST_CHAINS];
+    let (values, _) = values.split_at_mut(width.chains());
+    parts::end_values(width, id, q, &hash, signature, values);
     let mut hasher = hasher_of(id, q, D_PBLC);
     'chains: for i in 0..width.chains() {
-        let place = PLACE_OF_PARTS + 32 * i;
-        let part = &signature[place..place + 32];
-        let from = digit(width, &digits, i);
-        let end = chains::chain(&mut block, i as u16, from, width.greatest(), part);
-        hasher.update(&end);
+        hasher.update(&bytes_of(&values[i]));
     }
     hasher.finalize()
 }
