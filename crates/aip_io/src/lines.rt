@@ -152,6 +152,7 @@ impl Lines {
         ensures more { self.new.more ≡ (self.old.more && has_line result) }
         ensures most { self.new.most ≡ self.old.most }
         ensures falls { IsTrue (has_line result) → turns_of self.new < turns_of self.old }
+        ensures takes { IsTrue (has_line result) → turns_of self.new + length self.new.line ≤ turns_of self.old }
 
         // The line, whether a text is told or not.
         ensures short { length self.new.line ≤ self.old.most }
@@ -310,6 +311,7 @@ impl Lines {
         ensures served { result ≢ Got.Failed }
         ensures stays { self.new ≡ record self.old { kept = self.new.kept; line = self.new.line; more = self.old.more && has_line result } }
         ensures falls { IsTrue (has_line result) → length self.new.kept < length self.old.kept }
+        ensures takes { IsTrue (has_line result) → length self.new.kept + length self.new.line ≤ length self.old.kept }
         ensures short { length self.new.line ≤ self.old.most }
         ensures within { length self.new.kept ≤ self.old.most + 4097 }
         ensures one_line { has_no_line_feed self.new.line ≡ true }
@@ -331,6 +333,7 @@ impl Lines {
         ensures served { result ≢ Got.Failed }
         ensures stays { self.new ≡ record self.old { kept = self.new.kept; line = self.new.line; more = self.old.more && has_line result } }
         ensures falls { IsTrue (has_line result) → length self.new.kept < length self.old.kept }
+        ensures takes { IsTrue (has_line result) → length self.new.kept + length self.new.line ≤ length self.old.kept }
         ensures short { length self.new.line ≤ self.old.most }
         ensures within { length self.new.kept ≤ self.old.most + 4097 }
         ensures one_line { has_no_line_feed self.new.line ≡ true }
