@@ -1,109 +1,114 @@
 -- Chains that go on side by side.
-use Rattle.std.proofs.Common.{◌≡◌, ℕ, ◌+◌, ◌-◌, ◌<◌, ◌≤◌, inl, inr, List, [], ◌++◌, length, min, refl, sym, ◌∙◌, arith, slice_index, slice_index_or, slice_set, take, replicate}
+use Rattle.std.proofs.Common.{◌≡◌, ℕ, zero, suc, ◌+◌, ◌-◌, ◌<◌, ◌≤◌, ◌≢◌, ◌⊎◌, inl, inr, List, [], ◌∷◌, ◌++◌, length, sym, ◌∙◌, arith, slice_index, slice_index_or, slice_set, take, replicate}
 use Rattle.std.specs.Int.{w16, to_be_bytes}
-use Rattle.std.proofs.lemmas.List.{get_or-set_same, get_or-set_other, get_or-replicate, length-set, take-replicate}
-use Rattle.std.proofs.lemmas.Bool.{cases_lt}
+use Rattle.std.proofs.lemmas.List.{get_or-set_same, get_or-set_other, get_or-replicate, length-set, set_past, take-replicate}
+use Rattle.std.proofs.lemmas.Bool.{cases_lt, cases_order}
 use Rattle.sha2.specs.Sha256.{digest_bytes}
 use Rattle.lmots_core.specs.Chains.{step, steps}
-use Rattle.lmots_core.specs.Standing.{During, StandsAt, Takes, Waits, rest}
+use Rattle.lmots_core.specs.Standing.{IsOpen, Stand, StandsAt, left}
 use Rattle.lmots_core.proofs.Steps.{steps_done, steps_more}
 
--- before the first step the whole chain is left
-pub rest_first : (p : List ℕ) (a b : ℕ) (x : List ℕ) → rest p a b 0 x ≡ steps p a (b - a) x
-rest_first p a b x = let start : a + (0 - a) ≡ a = omega arith in rw start refl
+-- once a step is taken, the others lead where all did
+pub step_leads : (p : List ℕ) (a b : ℕ) (x y goal : List ℕ) → a < b → y ≡ step p a x → steps p a (b - a) x ≡ goal → steps p (a + 1) (b - (a + 1)) y ≡ goal
+step_leads p a b x y goal lt is h = rw is (sym (steps_more p a b x lt) ∙ h)
 
--- behind the last nothing is
-pub rest_last : (p : List ℕ) (a b j : ℕ) (x : List ℕ) → b ≤ j → rest p a b j x ≡ x
-rest_last p a b j x h = steps_done p (a + (j - a)) b x (omega arith)
+differs : (j k : ℕ) → (j < k) ⊎ (k < j) → j ≢ k
+differs j k (inl lt) = omega arith
+differs j k (inr lt) = omega arith
 
--- a chain that waits has as much left as before
-pub rest_waits : (p : List ℕ) (a b j : ℕ) (x : List ℕ) → Waits a b j → rest p a b (j + 1) x ≡ rest p a b j x
-rest_waits p a b j x h =
-    elim (cases_lt j a) [
-      | inl lt ↦ let same : a + (j + 1 - a) ≡ a + (j - a) = omega arith in rw same refl
-      | inr ge ↦ let ended : b ≤ j = h ge in rest_last p a b (j + 1) x (omega arith) ∙ sym (rest_last p a b j x ended)
+-- a number and a value of chain k are written
+stands_set : (p from to : List ℕ) (goal : ℕ → List ℕ) (values : List (List ℕ)) (k n j : ℕ) (x : List ℕ)
+    → k < length from → k < length values
+    → steps (p ++ to_be_bytes w16 k) n (slice_index to k - n) (digest_bytes x 8) ≡ goal k
+    → StandsAt p from to goal values j → StandsAt p (slice_set from k n) to goal (slice_set values k x) j
+stands_set p from to goal values k n j x b c h stands =
+    elim (cases_order j k) [
+      | inl same ↦
+          let number : slice_index (slice_set from k n) k ≡ n = get_or-set_same from k n 0 b in
+          let value : slice_index_or (slice_set values k x) k [] ≡ x = get_or-set_same values k x [] c in
+          rw (same, number, value) h
+      | inr other ↦
+          let number : slice_index (slice_set from k n) j ≡ slice_index from j = get_or-set_other from k j n 0 (differs j k other) in
+          let value : slice_index_or (slice_set values k x) j [] ≡ slice_index_or values j [] = get_or-set_other values k j x [] (differs j k other) in
+          rw (number, value) stands
     ]
 
--- a step that is taken is no longer left
-pub rest_takes : (p : List ℕ) (a b j : ℕ) (x : List ℕ) → a ≤ j → j < b → rest p a b (j + 1) (step p j x) ≡ rest p a b j x
-rest_takes p a b j x low high =
-    let here : a + (j - a) ≡ j = omega arith in
-    let next : a + (j + 1 - a) ≡ j + 1 = omega arith in
-    rw (here, next) (sym (steps_more p j b x high))
+pub stand_set : (p from to : List ℕ) (goal : ℕ → List ℕ) (values : List (List ℕ)) (k n : ℕ) (x : List ℕ)
+    → k < length from → k < length values
+    → steps (p ++ to_be_bytes w16 k) n (slice_index to k - n) (digest_bytes x 8) ≡ goal k
+    → Stand p from to goal values → Stand p (slice_set from k n) to goal (slice_set values k x)
+stand_set p from to goal values k n x b c h stand = λ j lt.
+    stands_set p from to goal values k n j x b c h (stand j (omega (arith, length-set values k x)))
 
--- what a turn has made of `old`: the chains below i are past step j, the others are as they were
-abbrev pub Reached : List ℕ → List ℕ → List ℕ → (ℕ → List ℕ) → ℕ → ℕ → List (List ℕ) → List (List ℕ) → Type 0
-Reached p from to goal j i old values = record {
-  len : length values ≡ length old;
-  done : (k : ℕ) → k < i → k < length old → StandsAt p from to goal values (j + 1) k;
-  same : (k : ℕ) → i ≤ k → slice_index_or values k [] ≡ slice_index_or old k [];
-}
+-- a number of `from` that is a step further than `old` there, and the step's value, are written
+pub stand_step : (p from to : List ℕ) (goal : ℕ → List ℕ) (old : List ℕ) (before values : List (List ℕ)) (k : ℕ) (x : List ℕ)
+    → k < length old → length from ≡ length old → length values ≡ length before → length old ≡ length before
+    → slice_index old k < slice_index to k
+    → digest_bytes x 8 ≡ step (p ++ to_be_bytes w16 k) (slice_index old k) (digest_bytes (slice_index_or before k []) 8)
+    → Stand p old to goal before
+    → Stand p from to goal values → Stand p (slice_set from k (slice_index old k + 1)) to goal (slice_set values k x)
+stand_step p from to goal old before values k x b lf lv l further is stood stand =
+    stand_set p from to goal values k (slice_index old k + 1) x (omega arith) (omega arith)
+    (step_leads (p ++ to_be_bytes w16 k) (slice_index old k) (slice_index to k) (digest_bytes (slice_index_or before k []) 8) (digest_bytes x 8) (goal k) further is (stood k (omega arith))) stand
 
-pub reached_none : (p from to : List ℕ) (goal : ℕ → List ℕ) (j i : ℕ) (old : List (List ℕ)) → During p from to goal j i old → Reached p from to goal j i old old
-reached_none p from to goal j i old h = record {
-  len = refl;
-  done = λ k lt b. (h k b).0 lt;
-  same = λ k le. refl;
-}
+-- at the end nothing is left
+pub stands_done : (p from to : List ℕ) (goal : ℕ → List ℕ) (values : List (List ℕ)) (k : ℕ) → slice_index to k ≤ slice_index from k
+    → StandsAt p from to goal values k → digest_bytes (slice_index_or values k []) 8 ≡ goal k
+stands_done p from to goal values k h stands = sym (steps_done (p ++ to_be_bytes w16 k) (slice_index from k) (slice_index to k) _ h) ∙ stands
 
-pub reached_end : (p from to : List ℕ) (goal : ℕ → List ℕ) (j i m : ℕ) (old values : List (List ℕ)) → During p from to goal j i old → i ≤ m → Reached p from to goal j m old values → During p from to goal j m values
-reached_end p from to goal j i m old values h le r = λ k b.
-    let within : k < length old = rw r.len at b in
-    ((λ lt. r.done k lt within), (λ ge. rw (r.same k ge) ((h k within).1 (omega arith))))
+-- a number that doesn't fall leaves no more steps
+pub left_set : (from to : List ℕ) (k n : ℕ) → slice_index from k ≤ n → left (slice_set from k n) to ≤ left from to
+unfolding left
+left_set [] to k n h = omega arith
+left_set (a ∷ from) [] zero n h = omega arith
+left_set (a ∷ from) [] (suc k) n h = omega arith
+left_set (a ∷ from) (b ∷ to) zero n h = omega arith
+left_set (a ∷ from) (b ∷ to) (suc k) n h = omega (arith, left_set from to k n h)
 
--- a value written at `at`, past the chains that wait
-stands_below : (p from to : List ℕ) (goal : ℕ → List ℕ) (j i at k : ℕ) (old values : List (List ℕ)) (value : List ℕ)
-    → ((k : ℕ) → i ≤ k → k < length old → StandsAt p from to goal old j k)
-    → Reached p from to goal j i old values
-    → ((k : ℕ) → i ≤ k → k < at → Waits (slice_index from k) (slice_index to k) j)
-    → k < at → k < length old → StandsAt p from to goal (slice_set values at value) (j + 1) k
-stands_below p from to goal j i at k old values value left r waits lt b =
-    let other : slice_index_or (slice_set values at value) k [] ≡ slice_index_or values k [] = get_or-set_other values at k value [] (omega arith) in
-    rw other (elim (cases_lt k i) [
-      | inl below ↦ r.done k below b
-      | inr ge ↦ rw (r.same k ge) (rest_waits (p ++ to_be_bytes w16 k) (slice_index from k) (slice_index to k) j _ (waits k ge lt) ∙ left k ge b)
-    ])
+-- a step of a chain that isn't at its end leaves fewer
+pub left_step : (from to : List ℕ) (k : ℕ) → k < length from → slice_index from k < slice_index to k → left (slice_set from k (slice_index from k + 1)) to < left from to
+unfolding left
+left_step [] to k b h = absurd (omega arith)
+left_step (a ∷ from) [] k b h = absurd (omega arith)
+left_step (a ∷ from) (b ∷ to) zero c h = omega arith
+left_step (a ∷ from) (b ∷ to) (suc k) c h = omega (arith, left_step from to k (omega arith) h)
 
-stands_written : (p from to : List ℕ) (goal : ℕ → List ℕ) (j at : ℕ) (old values : List (List ℕ)) (value : List ℕ)
-    → length values ≡ length old → at < length old → StandsAt p from to goal old j at
-    → Takes (slice_index from at) (slice_index to at) j
-    → digest_bytes value 8 ≡ step (p ++ to_be_bytes w16 at) j (digest_bytes (slice_index_or old at []) 8)
-    → StandsAt p from to goal (slice_set values at value) (j + 1) at
-stands_written p from to goal j at old values value len b left takes is =
-    let written : slice_index_or (slice_set values at value) at [] ≡ value = get_or-set_same values at value [] (omega arith) in
-    rw (written, is) (rest_takes (p ++ to_be_bytes w16 at) (slice_index from at) (slice_index to at) j _ takes.0 takes.1 ∙ left)
+-- no chain has come more than a step further
+abbrev pub Near : List ℕ → List ℕ → Type 0
+Near from now = (k : ℕ) → slice_index now k ≤ slice_index from k + 1
 
--- the chains up to `at`, once a value is written there
-stands_reached : (p from to : List ℕ) (goal : ℕ → List ℕ) (j i at k : ℕ) (old values : List (List ℕ)) (value : List ℕ)
-    → ((k : ℕ) → i ≤ k → k < length old → StandsAt p from to goal old j k)
-    → min i (length old) ≤ at
-    → (at < length old → Takes (slice_index from at) (slice_index to at) j)
-    → ((k : ℕ) → i ≤ k → k < at → Waits (slice_index from k) (slice_index to k) j)
-    → (at < length old → digest_bytes value 8 ≡ step (p ++ to_be_bytes w16 at) j (digest_bytes (slice_index_or old at []) 8))
-    → Reached p from to goal j i old values
-    → k < at + 1 → k < length old → StandsAt p from to goal (slice_set values at value) (j + 1) k
-stands_reached p from to goal j i at k old values value left low takes waits is r lt b =
-    elim (cases_lt k at) [
-      | inl below ↦ stands_below p from to goal j i at k old values value left r waits below b
-      | inr ge ↦
-          let here : k ≡ at = omega arith in
-          let within : at < length old = omega arith in
-          rw here (stands_written p from to goal j at old values value r.len within (left at (omega arith) within) (takes within) (is within))
+near_there : (from now : List ℕ) (k : ℕ) → Near from now → slice_index (slice_set now k (slice_index from k + 1)) k ≤ slice_index from k + 1
+near_there from now k near =
+    elim (cases_lt k (length now)) [
+      | inl inside ↦ let written : slice_index (slice_set now k (slice_index from k + 1)) k ≡ slice_index from k + 1 = get_or-set_same now k (slice_index from k + 1) 0 inside in omega (arith, written)
+      | inr past ↦ let as_before : slice_set now k (slice_index from k + 1) ≡ now = set_past now k (slice_index from k + 1) past in rw as_before (near k)
     ]
 
-pub reached_more : (p from to : List ℕ) (goal : ℕ → List ℕ) (j i at : ℕ) (old values : List (List ℕ)) (value : List ℕ)
-    → ((k : ℕ) → i ≤ k → k < length old → StandsAt p from to goal old j k)
-    → i ≤ length old + 1 → min i (length old) ≤ at
-    → (at < length old → Takes (slice_index from at) (slice_index to at) j)
-    → ((k : ℕ) → i ≤ k → k < at → Waits (slice_index from k) (slice_index to k) j)
-    → (at < length old → digest_bytes value 8 ≡ step (p ++ to_be_bytes w16 at) j (digest_bytes (slice_index_or old at []) 8))
-    → Reached p from to goal j i old values
-    → Reached p from to goal j (at + 1) old (slice_set values at value)
-reached_more p from to goal j i at old values value left bound low takes waits is r = record {
-  len = length-set values at value ∙ r.len;
-  done = λ k lt b. stands_reached p from to goal j i at k old values value left low takes waits is r lt b;
-  same = λ k ge. get_or-set_other values at k value [] (omega arith) ∙ r.same k (omega arith);
-}
+near_at : (from now : List ℕ) (k j : ℕ) → Near from now → slice_index (slice_set now k (slice_index from k + 1)) j ≤ slice_index from j + 1
+near_at from now k j near =
+    elim (cases_order j k) [
+      | inl same ↦ rw same (near_there from now k near)
+      | inr other ↦ let as_before : slice_index (slice_set now k (slice_index from k + 1)) j ≡ slice_index now j = get_or-set_other now k j (slice_index from k + 1) 0 (differs j k other) in rw as_before (near j)
+    ]
+
+pub near_set : (from now : List ℕ) (k : ℕ) → Near from now → Near from (slice_set now k (slice_index from k + 1))
+near_set from now k near = λ j. near_at from now k j near
+
+-- four steps leave fewer
+pub left_four : (from to : List ℕ) (a b c d : ℕ) → a < length from → slice_index from a < slice_index to a
+    → left (slice_set (slice_set (slice_set (slice_set from a (slice_index from a + 1)) b (slice_index from b + 1)) c (slice_index from c + 1)) d (slice_index from d + 1)) to < left from to
+left_four from to a b c d inside further =
+    let one = slice_set from a (slice_index from a + 1) in
+    let two = slice_set one b (slice_index from b + 1) in
+    let three = slice_set two c (slice_index from c + 1) in
+    let near_one = near_set from from a (λ j. omega arith) in
+    let near_two = near_set from one b near_one in
+    let near_three = near_set from two c near_two in
+    let first = left_step from to a inside further in
+    let second = left_set one to b (slice_index from b + 1) (near_one b) in
+    let third = left_set two to c (slice_index from c + 1) (near_two c) in
+    let fourth = left_set three to d (slice_index from d + 1) (near_three d) in
+    omega (arith, first, second, third, fourth)
 
 -- the chains below n have their values
 abbrev pub Filled : (ℕ → List ℕ) → ℕ → List (List ℕ) → Type 0
@@ -153,3 +158,11 @@ digits_more f n xs x b is h k lt =
 -- each place in the front of an array of one number
 pub front_same : (m n k y : ℕ) (xs : List ℕ) → xs ≡ take m (replicate n y) → m ≤ n → k < m → slice_index xs k ≡ y
 front_same m n k y xs e h b = rw (e, take-replicate m n y h) (get_or-replicate m k y 0 b)
+
+-- where no chain is found that isn't at its end, each is
+pub ended : (from to : List ℕ) (k next : ℕ) → k < length from → length from ≤ next → ((k : ℕ) → IsOpen from to k → next < length from) → slice_index to k ≤ slice_index from k
+ended from to k next inside none found =
+    elim (cases_lt (slice_index from k) (slice_index to k)) [
+      | inl lt ↦ let less = found k (inside, lt) in absurd (omega (arith, less))
+      | inr ge ↦ ge
+    ]

@@ -25,21 +25,25 @@ fn across(x: u32x4, y: u32x4) -> u32x4
 
 // The word of the number of a chain, the number of a step, and the first byte of `x`.
 #[inline(always)]
-fn place_word(chains: u32x4, number: u8, x: u32x4) -> u32x4
-    requires { (j : ℕ) → j < 4 → slice_index chains j < 2 ^ 16 }
-    ensures { (j : ℕ) → j < 4 → slice_index result j ≡ place_word (slice_index chains j) number (slice_index x j) }
+fn place_word(chains: u32x4, numbers: u32x4, x: u32x4) -> u32x4
+    requires chains { (j : ℕ) → j < 4 → slice_index chains j < 2 ^ 16 }
+    requires numbers { (j : ℕ) → j < 4 → slice_index numbers j < 2 ^ 8 }
+    ensures { (j : ℕ) → j < 4
+        → slice_index result j ≡ place_word (slice_index chains j) (slice_index numbers j) (slice_index x j) }
 {
     add(
-        add(shift_left(chains, 16), splat(u32::from(number) << 8)),
+        add(shift_left(chains, 16), shift_left(numbers, 8)),
         shift_right(x, 24),
     )
 }
 
 // The words of the blocks of a step, padded: the leaf's, the place, the value, the padding, and the length of 440 bits.
 #[inline(always)]
-fn block_words(head: &[u32; 5], chains: u32x4, number: u8, value: [u32x4; 8]) -> [u32x4; 16]
-    requires { (j : ℕ) → j < 4 → slice_index chains j < 2 ^ 16 }
-    ensures { (j : ℕ) → j < 4 → lane j result ≡ block_words head.now (slice_index chains j) number (value_in j value) }
+fn block_words(head: &[u32; 5], chains: u32x4, numbers: u32x4, value: [u32x4; 8]) -> [u32x4; 16]
+    requires chains { (j : ℕ) → j < 4 → slice_index chains j < 2 ^ 16 }
+    requires numbers { (j : ℕ) → j < 4 → slice_index numbers j < 2 ^ 8 }
+    ensures { (j : ℕ) → j < 4
+        → lane j result ≡ block_words head.now (slice_index chains j) (slice_index numbers j) (value_in j value) }
 {
     let [t0, t1, t2, t3, t4, t5, t6, t7] = value;
     [
@@ -48,7 +52,7 @@ fn block_words(head: &[u32; 5], chains: u32x4, number: u8, value: [u32x4; 8]) ->
         splat(head[2]),
         splat(head[3]),
         splat(head[4]),
-        place_word(chains, number, t0),
+        place_word(chains, numbers, t0),
         across(t0, t1),
         across(t1, t2),
         across(t2, t3),
@@ -62,13 +66,28 @@ fn block_words(head: &[u32; 5], chains: u32x4, number: u8, value: [u32x4; 8]) ->
     ]
 }
 
-// One step of four chains of a leaf.
-pub(crate) fn chain_step(head: [u32; 5], chains: u32x4, number: u8, value: [u32x4; 8]) -> [u32x4; 8]
+// One step of four chains of a leaf, each with a number of its own.
+pub(crate) fn chain_step(
+    head: [u32; 5],
+    chains: u32x4,
+    numbers: u32x4,
+    value: [u32x4; 8],
+) -> [u32x4; 8]
+    requires chains { (j : ℕ) → j < 4 → slice_index chains j < 2 ^ 16 }
+    requires numbers { (j : ℕ) → j < 4 → slice_index numbers j < 2 ^ 8 }
+    ensures { (j : ℕ) → j < 4 → (p : List ℕ) → IsHead head p → digest_bytes (value_in j result) 8
+        ≡ step (p ++ to_be_bytes w16 (slice_index chains j)) (slice_index numbers j) (digest_bytes (value_in j value) 8) }
+{
+    hash_block(&block_words(&head, chains, numbers, value))
+}
+
+// One step of four chains of a leaf, with one number.
+pub(crate) fn equal_step(head: [u32; 5], chains: u32x4, number: u8, value: [u32x4; 8]) -> [u32x4; 8]
     requires { (j : ℕ) → j < 4 → slice_index chains j < 2 ^ 16 }
     ensures { (j : ℕ) → j < 4 → (p : List ℕ) → IsHead head p → digest_bytes (value_in j result) 8
         ≡ step (p ++ to_be_bytes w16 (slice_index chains j)) number (digest_bytes (value_in j value) 8) }
 {
-    hash_block(&block_words(&head, chains, number, value))
+    chain_step(head, chains, splat(u32::from(number)), value)
 }
 
 // The steps of four chains of a leaf, from the first up to number `to`.
@@ -79,7 +98,7 @@ fn run(head: [u32; 5], chains: u32x4, to: u8, start: [u32x4; 8]) -> [u32x4; 8]
 {
     let mut value = start;
     'steps: for number in 0..to {
-        let next = chain_step(head, chains, number, value);
+        let next = equal_step(head, chains, number, value);
         value = next;
     }
     value
@@ -115,7 +134,7 @@ pub(crate) fn four_chains(block: &[u8; 55], first: u32, to: u8, seed: &[u8; 32])
 {
     let head = head_words(block);
     let chains = chain_numbers(first);
-    let start = chain_step(head, chains, 0xff, splat_bytes(seed));
+    let start = equal_step(head, chains, 0xff, splat_bytes(seed));
     run(head, chains, to, start)
 }
 

@@ -54,11 +54,11 @@ pub(crate) fn sign_values(
     let mut digits = [0; MOST_CHAINS];
     let (digits, _) = digits.split_at_mut(width.chains());
     fill_digits(width, hash, digits);
-    let starts = [0; MOST_CHAINS];
-    let (starts, _) = starts.split_at(width.chains());
+    let mut starts = [0; MOST_CHAINS];
+    let (starts, _) = starts.split_at_mut(width.chains());
     let head = leaf_head(id, q);
     fill_secrets(head, seed, values);
-    advance(head, starts, digits, width.greatest(), values);
+    advance(head, starts, digits, values);
 }
 
 // The words of the parts that a signature has.
@@ -96,5 +96,5 @@ pub(crate) fn end_values(
     let ends = [width.greatest(); MOST_CHAINS];
     let (ends, _) = ends.split_at(width.chains());
     read_parts(width, signature, values);
-    advance(leaf_head(id, q), digits, ends, width.greatest(), values);
+    advance(leaf_head(id, q), digits, ends, values);
 }

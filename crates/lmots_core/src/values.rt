@@ -1,6 +1,6 @@
 // The value of a chain as eight words, high byte first, and four of them side by side.
 
-ghost use Rattle.std.specs.Prelude.{◌≡◌, ◌<◌, [], length, slice_index, slice_index_or, slice_set};
+ghost use Rattle.std.specs.Prelude.{◌≡◌, ◌<◌, length, slice_index, slice_set};
 ghost use Rattle.sha2.specs.Sha256.{digest_bytes};
 ghost use Rattle.sha256_lanes.specs.Lanes.{value_in};
 
@@ -71,18 +71,6 @@ fn lane_words(value: &[u32x4; 8], j: usize) -> [u32; 8]
         value[6].to_array()[j],
         value[7].to_array()[j],
     ]
-}
-
-// The value at `at`; past the end there is none, and any will do.
-#[inline(always)]
-pub(crate) fn value_at(values: &[[u32; 8]], at: usize) -> [u32; 8]
-    ensures { at < length values.now → result ≡ slice_index_or values.now at [] }
-{
-    if at < values.len() {
-        values[at]
-    } else {
-        [0; 8]
-    }
 }
 
 // Puts a value at `at`; past the end there is no place for it.

@@ -2,9 +2,10 @@
 //!
 //! A word names the work. `chain` makes 230 public keys of digits of eight bits, with chains of one length; `single` signs
 //! under each of the 230 leaves and takes each signature on to its key, with chains of unequal lengths. Either makes
-//! 230 * 34 * 255, which is 1,994,100, steps of chains, and about 8,000 other hashes. `small` makes 400 keys of digits of four
-//! bits with trees of height 5, and `tall` 20 keys of digits of two bits with trees of height 10. `sign` makes 4,000 signatures
-//! with one key of the first kind, and `verify` verifies one of them 4,000 times. With no word it does a little of each.
+//! 230 * 34 * 255, which is 1,994,100, steps of chains, and about 8,000 other hashes. `small` makes 400 keys of digits of
+//! four bits with trees of height 5, and `tall` 20 keys of digits of two bits with trees of height 10. `sign` makes 4,000
+//! signatures with one key of the first kind, and `verify` verifies one of them 4,000 times. With no word it does a little
+//! of each.
 #![tactic(auto)]
 
 use lmots_core::{candidate, public};

@@ -10,7 +10,7 @@ steps-init c = λ j lt p head. refl
 
 pub steps-preserved : goal.steps-preserved
 steps-preserved c = λ j lt p head.
-    rw (c.chain_step-next.ensures j lt p head)
+    rw (c.equal_step-next.ensures j lt p head)
     (sym (steps_more (p ++ to_be_bytes w16 (slice_index c.args.chains j)) c.steps.number c.args.to (digest_bytes (value_in j c.steps.value) 8) (omega arith))
     ∙ c.steps.invariant j lt p head)
 

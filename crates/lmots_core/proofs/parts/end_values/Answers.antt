@@ -5,12 +5,6 @@ use Rattle.lmots_core.proofs.Sizes.{chains_few}
 use Rattle.lmots_core.proofs.Standing.{front_same}
 use Rattle.lmots_core.proofs.parts.end_values.Goals as goal
 
-pub advance-requires-clause-most : goal.advance-requires-clause-most
-advance-requires-clause-most c = λ k lt.
-    let few = chains_few c.args.width in
-    let end : slice_index c.split_at.result.0.now k ≡ c.greatest-ends.result = front_same c.chains-2.result 265 k c.greatest-ends.result _ c.split_at.ensures.front (omega (arith, few)) (omega arith) in
-    omega (arith, end)
-
 pub returns-clause-ends : goal.returns-clause-ends
 returns-clause-ends c = λ k lt.
     let p = c.args.id.now ++ to_be_bytes w32 c.args.q in

@@ -1,24 +1,31 @@
-use Rattle.std.proofs.Common.{◌∙◌, ◌≤◌, ◌++◌, [], refl, sym, arith, slice_index, slice_index_or}
+use Rattle.std.proofs.Common.{◌∙◌, ◌-◌, ◌++◌, [], refl, sym, arith, slice_index, slice_index_or}
 use Rattle.std.specs.Int.{w16, to_be_bytes}
 use Rattle.sha2.specs.Sha256.{digest_bytes}
-use Rattle.lmots_core.proofs.Standing.{rest_first, rest_last}
+use Rattle.lmots_core.specs.Chains.{steps}
+use Rattle.lmots_core.proofs.Standing.{ended, stands_done}
 use Rattle.lmots_core.proofs.rounds.advance.Goals as goal
 
-pub rounds-init : goal.rounds-init
-rounds-init c = record {
+pub turns-init : goal.turns-init
+turns-init c = record {
+  starts = c.requires.starts;
   len = refl;
-  stand = λ p head k lt. rest_first (p ++ to_be_bytes w16 k) (slice_index c.args.from.now k) (slice_index c.args.to.now k) _;
+  further = c.next_open-next.ensures.goes_on;
+  found = c.next_open-next.ensures.found;
+  stand = λ p head k lt. refl;
 }
 
-pub rounds-preserved : goal.rounds-preserved
-rounds-preserved c = record {
-  len = c.round.ensures.length ∙ c.rounds.invariant.len;
-  stand = λ p head. c.round.ensures.stand p _ head (c.rounds.invariant.stand p head);
+pub turns-preserved : goal.turns-preserved
+turns-preserved c = record {
+  starts = c.turn-next.ensures.starts ∙ sym c.turn-next.ensures.length;
+  len = c.turn-next.ensures.length ∙ c.turns.invariant.len;
+  further = c.turn-next.ensures.goes_on;
+  found = c.turn-next.ensures.found;
+  stand = λ p head. c.turn-next.ensures.stand p _ head (c.turns.invariant.stand p head);
 }
 
 pub returns-clause-stand : goal.returns-clause-stand
 returns-clause-stand c = λ p head k lt.
-    let within = c.requires.most k (omega arith) in
-    let ended : slice_index c.args.to.now k ≤ c.rounds.number = omega (arith, within) in
-    sym (rest_last (p ++ to_be_bytes w16 k) (slice_index c.args.from.now k) (slice_index c.args.to.now k) c.rounds.number (digest_bytes (slice_index_or c.rounds.values k []) 8) ended)
-    ∙ c.rounds.invariant.stand p head k (omega arith)
+    let end = ended c.turns.from c.args.to.now k c.turns.next (omega arith) (omega arith) c.turns.invariant.found in
+    stands_done p c.turns.from c.args.to.now
+    (λ k. steps (p ++ to_be_bytes w16 k) (slice_index c.args.from.now k) (slice_index c.args.to.now k - slice_index c.args.from.now k) (digest_bytes (slice_index_or c.args.values.now k []) 8))
+    c.turns.values k end (c.turns.invariant.stand p head k (omega arith))

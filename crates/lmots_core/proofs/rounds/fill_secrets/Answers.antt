@@ -4,8 +4,8 @@ use Rattle.sha2.specs.Sha256.{sha256}
 use Rattle.lmots_core.proofs.Standing.{filled_four, length-four}
 use Rattle.lmots_core.proofs.rounds.fill_secrets.Goals as goal
 
-pub chain_step-next-requires : goal.chain_step-next-requires
-chain_step-next-requires c = λ j lt. omega (arith, c.chain_numbers.ensures j lt)
+pub equal_step-next-requires : goal.equal_step-next-requires
+equal_step-next-requires c = λ j lt. omega (arith, c.chain_numbers.ensures j lt)
 
 pub groups-init : goal.groups-init
 groups-init c = record {
@@ -17,7 +17,7 @@ pub groups-preserved : goal.groups-preserved
 groups-preserved c = record {
   len = rw c.put_lanes.ensures (length-four c.groups.values _ _ _ _ _ _ _ _ ∙ c.groups.invariant.len);
   filled = λ p head.
-      let secret = λ (j : ℕ) (lt : j < 4). rw (c.splat_bytes-start.ensures j lt, c.chain_numbers.ensures j lt) at (c.chain_step-next.ensures j lt p head) in
+      let secret = λ (j : ℕ) (lt : j < 4). rw (c.splat_bytes-start.ensures j lt, c.chain_numbers.ensures j lt) at (c.equal_step-next.ensures j lt p head) in
       let first : 4 * c.groups.group + 0 ≡ 4 * c.groups.group = omega arith in
       let f = λ (k : ℕ). sha256 (p ++ to_be_bytes w16 k ++ 0xff ∷ c.args.seed.now) in
       rw c.put_lanes.ensures (filled_four f (4 * c.groups.group) (4 * (c.groups.group + 1)) c.groups.values _ _ _ _ (omega arith)

@@ -1,6 +1,5 @@
 use Rattle.std.proofs.Common.{ℕ, ◌<◌, ◌≤◌, slice_index}
-use Rattle.lmots_core.specs.Standing.{Waits}
 use Rattle.lmots_core.proofs.rounds.next_at.Given as goal
 
 abbrev pub invariant-chains : goal.invariant-chains
-invariant-chains l = (k : ℕ) → l.at ≤ k → k < l.k → Waits (slice_index l.from k) (slice_index l.to k) l.number
+invariant-chains l = (k : ℕ) → l.at ≤ k → k < l.k → slice_index l.to k ≤ slice_index l.from k
