@@ -1,5 +1,5 @@
-//! Whole runs of the top call over texts in memory, where calls of the shelf and of the sink fail in turn, and random schedules
-//! of three hosts against a plain count.
+//! Whole runs of the top call over texts in memory, where calls of the shelf and of the sink fail in turn, and random
+//! schedules of three hosts against a plain count.
 #![tactic(auto)]
 
 #[cfg(test)]

@@ -148,35 +148,23 @@ fn left(rng: &mut Xoshiro256PlusPlus) -> u64 {
     }
 }
 
-// A stop of the signings of a host is armed.
-fn arm_stop(alloc: Global, core: Core, draws: &mut Draws) -> Result<Core, Fail> {
+// A stop of the signings of a host is armed, or a halt of its guard.
+fn arm(alloc: Global, core: Core, draws: &mut Draws, halts: bool) -> Result<Core, Fail> {
     let at = place(&mut draws.rng);
-    let call = 1 + below(&mut draws.rng, 2);
+    let call = 1 + below(&mut draws.rng, if halts { 4 } else { 2 });
     let byte = left(&mut draws.rng);
     let host = name(at)?;
-    let (core, _) = step(
-        alloc,
-        core,
-        &mut draws.counts,
-        Input::Stop { host, call, byte },
-    )?;
-    draws.counts.hosts[at].stop = Some((call, byte));
-    Ok(core)
-}
-
-// A halt of the guard of a host is armed.
-fn arm_halt(alloc: Global, core: Core, draws: &mut Draws) -> Result<Core, Fail> {
-    let at = place(&mut draws.rng);
-    let call = 1 + below(&mut draws.rng, 4);
-    let byte = left(&mut draws.rng);
-    let host = name(at)?;
-    let (core, _) = step(
-        alloc,
-        core,
-        &mut draws.counts,
-        Input::Halt { host, call, byte },
-    )?;
-    draws.counts.hosts[at].halt = Some((call, byte));
+    let input = if halts {
+        Input::Halt { host, call, byte }
+    } else {
+        Input::Stop { host, call, byte }
+    };
+    let (core, _) = step(alloc, core, &mut draws.counts, input)?;
+    if halts {
+        draws.counts.hosts[at].halt = Some((call, byte));
+    } else {
+        draws.counts.hosts[at].stop = Some((call, byte));
+    }
     Ok(core)
 }
 
@@ -229,8 +217,8 @@ fn turn(alloc: Global, core: Core, draws: &mut Draws) -> Result<Core, Fail> {
     match below(&mut draws.rng, 12) {
         0..=2 => send(alloc, core, draws),
         3..=6 => shut(alloc, core, draws),
-        7 => arm_stop(alloc, core, draws),
-        8 => arm_halt(alloc, core, draws),
+        7 => arm(alloc, core, draws, false),
+        8 => arm(alloc, core, draws, true),
         9 | 10 => restart(alloc, core, draws),
         _ => wait(alloc, core, draws),
     }

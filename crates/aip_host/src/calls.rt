@@ -1,5 +1,5 @@
-// The calls of a host. Each is told twice: by what the host keeps, and, for every trace for which the host stands, by what the
-// rules say on that trace, where the host then stands for the longer one.
+// The calls of a host. Each is told twice: by what the host keeps, and, for every trace that the host stands for, by what
+// the rules say on that trace; the host then stands for the longer one.
 ghost use Rattle.std.specs.Prelude.{◌≡◌, ◌<◌, ◌≤◌, ◌^◌, ℕ, [], length, true, Some, IfOk, OnErr, IsSome};
 ghost use Rattle.lms_core.specs.Tree.{Key};
 ghost use Rattle.aip_frame.specs.declared.frame.Frame.{Frame as Framed};
@@ -76,7 +76,8 @@ impl Host {
         ensures reaction { IfOk result (λ reaction. reaction ≡ put_by (standing_of self.old now) bytes.now) }
         ensures follows { IfOk result (λ reaction. Follows now self.old reaction self.new) }
         ensures same { OnErr result (self.new ≡ self.old) }
-        ensures stands { IfOk result (λ reaction. StandsOn now self.old LetsAct (λ s. put_by s bytes.now) reaction self.new) }
+        ensures stands { IfOk result (λ reaction.
+            StandsOn now self.old LetsAct (λ s. put_by s bytes.now) reaction self.new) }
         ensures disks { DisksServe self.new }
         ensures seat { self.new.seat ≡ self.old.seat }
     {
@@ -89,7 +90,8 @@ impl Host {
         requires soon { now < 2 ^ 48 }
         ensures reaction { IfOk result (λ reaction. reaction ≡ at_host (standing_of self.old now) bytes.now) }
         ensures follows { IfOk result (λ reaction. Follows now self.old reaction self.new) }
-        ensures stands { IfOk result (λ reaction. StandsOn now self.old LetsAct (λ s. at_host s bytes.now) reaction self.new) }
+        ensures stands { IfOk result (λ reaction.
+            StandsOn now self.old LetsAct (λ s. at_host s bytes.now) reaction self.new) }
         ensures disks { DisksServe self.new }
         ensures seat { self.new.seat ≡ self.old.seat }
     {
@@ -133,12 +135,13 @@ impl Host {
         self.arm_stop(call, byte);
     }
 
-    /// Arms a halt at the call of its guard's next write, 1 to 4, which leaves the byte. It takes the place of one that is armed.
-    /// Without a guard, or while that is down, nothing changes.
+    /// Arms a halt at the call of its guard's next write, 1 to 4, which leaves the byte. It takes the place of one that is
+    /// armed. Without a guard, or while that is down, nothing changes.
     pub fn halt(&mut self, call: u8, byte: u8)
         requires first { 1 ≤ call }
         requires last { call ≤ 4 }
-        ensures halt { self.new ≡ record self.old { guard = halted_in self.old.guard (record { call = call; byte = byte }) } }
+        ensures halt { self.new
+            ≡ record self.old { guard = halted_in self.old.guard (record { call = call; byte = byte }) } }
         ensures stands { (time : ℕ) → StandsOn time self.old (ArmsHalt call byte) (λ s. nothing) nothing self.new }
         ensures disks { DisksServe self.new }
         ensures seat { self.new.seat ≡ self.old.seat }
@@ -146,8 +149,8 @@ impl Host {
         self.arm_halt(call, byte);
     }
 
-    /// Starts the host anew: its log is empty, and its disks are restarted. A guarded host then tells what is in force. The only
-    /// error is want of memory: the host is up then too.
+    /// Starts the host anew: its log is empty, and its disks are restarted. A guarded host then tells what is in force. The
+    /// only error is want of memory: the host is up then too.
     pub fn restart(&mut self, alloc: Global, now: u64) -> Result<Reaction, Memory>
         requires soon { now < 2 ^ 48 }
         ensures reaction { IfOk result (λ reaction. reaction ≡ back_up (standing_of self.old now)) }
