@@ -294,3 +294,8 @@ heard_is old kept now f is same =
 -- without a guard it drops it
 pub heard_nowhere : (old : HostState) (now : ℕ) (f : Frame) → old.guard ≡ None → rules.kind_at_host (standing_of old now) f ShutOff ≡ dropped old.seat.name reason.Unguarded
 heard_nowhere old now f is = ap (λ g. rules.kind_at_host (standing_of (record old { guard = g }) now) f ShutOff) is
+
+-- an order that is obeyed is no shut-off that is refused
+pub obeyed_unheard : {A : Type 0} (name : List ℕ) (to : KeyId) (until number : ℕ) (obeying : Obeying) → happens (order_event name to until obeying) ≡ happens (event.Heard name number) → A
+obeyed_unheard name to until number Obeyed is = let same = ap (λ (r : Reaction). r.events) is in absurd cc
+obeyed_unheard name to until number (Halted call byte) is = let same = ap (λ (r : Reaction). r.events) is in absurd cc

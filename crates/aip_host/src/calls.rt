@@ -8,6 +8,7 @@ ghost use Rattle.aip_topo.specs.declared.topology.Topology.{Topology};
 ghost use Rattle.aip_rules.specs.Host.{at_host, back_up, put_by, sent_frame, shut_by};
 ghost use Rattle.aip_rules.specs.Reaction.{nothing};
 ghost use Rattle.aip_host.specs.HostState.{key_in, standing_of};
+ghost use Rattle.aip_host.specs.Withholding.{LeavesUnheard};
 ghost use Rattle.aip_host.specs.After.{Follows, IsNew, IsRestarted, halted_in, stopped_in};
 ghost use Rattle.aip_host.specs.StandsFor.{DisksServe, StandsFor};
 ghost use Rattle.aip_host.specs.StandsOn.{ArmsHalt, ArmsStop, IsSeated, LetsAct, StandsOn, StartsAnew};
@@ -92,6 +93,8 @@ impl Host {
         ensures follows { IfOk result (λ reaction. Follows now self.old reaction self.new) }
         ensures stands { IfOk result (λ reaction.
             StandsOn now self.old LetsAct (λ s. at_host s bytes.now) reaction self.new) }
+        // A shut-off that is refused changes nothing that the guard keeps, its file included.
+        ensures unheard { IfOk result (λ reaction. LeavesUnheard self.old.seat.name reaction self.old.guard self.new.guard) }
         ensures disks { DisksServe self.new }
         ensures seat { self.new.seat ≡ self.old.seat }
     {

@@ -9,6 +9,7 @@ ghost use Rattle.aip_rules.specs.Host.{answered, at_host, back_up, challenged, h
 ghost use Rattle.aip_rules.specs.Reaction.{happens};
 ghost use Rattle.aip_host.specs.StandsFor.{DisksServe};
 ghost use Rattle.aip_host.specs.HostState.{down_of, key_in, standing_of};
+ghost use Rattle.aip_host.specs.Withholding.{LeavesUnheard};
 ghost use Rattle.aip_host.specs.After.{Follows, IsNew, IsRestarted, halted_in, stopped_in};
 
 use crate::answering::{answer, challenge_in};
@@ -182,6 +183,7 @@ impl Host {
         requires soon { now < 2 ^ 48 }
         ensures reaction { IfOk result (λ reaction. reaction ≡ at_host (standing_of self.old now) bytes.now) }
         ensures follows { IfOk result (λ reaction. Follows now self.old reaction self.new) }
+        ensures unheard { IfOk result (λ reaction. LeavesUnheard self.old.seat.name reaction self.old.guard self.new.guard) }
         ensures disks { DisksServe self.new }
         ensures seat { self.new.seat ≡ self.old.seat }
     {
@@ -209,6 +211,7 @@ impl Host {
         requires challenge { frame.now.kind ≡ Kind.Challenge → length frame.now.body ≡ 154 }
         ensures reaction { IfOk result (λ reaction. reaction ≡ taken_at_host (standing_of self.old now) (Some frame.now)) }
         ensures follows { IfOk result (λ reaction. Follows now self.old reaction self.new) }
+        ensures unheard { IfOk result (λ reaction. LeavesUnheard self.old.seat.name reaction self.old.guard self.new.guard) }
         ensures disks { DisksServe self.new }
         ensures seat { self.new.seat ≡ self.old.seat }
     {
@@ -245,6 +248,7 @@ impl Host {
         ensures reaction { (f : Framed) → frame_of bytes.now ≡ Some f
             → IfOk result (λ reaction. reaction ≡ kind_at_host (standing_of self.old now) f Kind.ShutOff) }
         ensures follows { IfOk result (λ reaction. Follows now self.old reaction self.new) }
+        ensures unheard { IfOk result (λ reaction. LeavesUnheard self.old.seat.name reaction self.old.guard self.new.guard) }
         ensures disks { DisksServe self.new }
         ensures seat { self.new.seat ≡ self.old.seat }
     {
@@ -262,6 +266,7 @@ impl Host {
         ensures reaction { IfOk result (λ reaction. reaction
             ≡ challenged (standing_of self.old now) challenge.now (asked_in challenge.now.body)) }
         ensures follows { IfOk result (λ reaction. Follows now self.old reaction self.new) }
+        ensures guard { self.new.guard ≡ self.old.guard }
         ensures disks { DisksServe self.new }
         ensures seat { self.new.seat ≡ self.old.seat }
     {
@@ -283,6 +288,7 @@ impl Host {
         ensures reaction { IfOk result (λ reaction. reaction
             ≡ answered (standing_of self.old now) challenge.now (key_in self.old.key)) }
         ensures follows { IfOk result (λ reaction. Follows now self.old reaction self.new) }
+        ensures guard { self.new.guard ≡ self.old.guard }
         ensures disks { DisksServe self.new }
         ensures seat { self.new.seat ≡ self.old.seat }
     {
