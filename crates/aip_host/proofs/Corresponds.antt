@@ -19,14 +19,13 @@ use Rattle.aip_rules.specs.declared.Entry.{Entry}
 use Rattle.aip_rules.specs.declared.Entry.TheVariants.{Taken}
 use Rattle.aip_rules.specs.declared.Reaction.{Reaction}
 use Rattle.aip_rules.specs.declared.Seat.{Seat}
-use Rattle.aip_rules.specs.State.{now_of, is_down, is_restart_of, is_halt_of, armed_stop, armed_halt}
+use Rattle.aip_rules.specs.State.{now_of, is_down, is_halt_of, armed_stop, armed_halt}
 use Rattle.aip_rules.specs.Nodes.{name_at, key_named, is_guarded}
 use Rattle.aip_rules.specs.Reaction.{nothing, dropped, numbered, put_event}
 use Rattle.aip_rules.specs.Standing.{Standing, standing, lets_act, frames_put, next_leaf, told_to}
 use Rattle.aip_rules.specs.Host.{handed_down, put_by, shut_by, taken_at_host, at_host, back_up}
 use Rattle.aip_rules.specs.Step.{with_events, after_step}
-use Rattle.aip_host.specs.Signing.{KeyState, with_stop}
-use Rattle.aip_host.specs.HostState.{HostState, key_in, next_in, stop_in, halt_in, shut_in, down_of, standing_of}
+use Rattle.aip_host.specs.HostState.{HostState, halt_in, shut_in, down_of, standing_of}
 use Rattle.aip_host.specs.After.{Follows, IsNew, next_past, stop_past, halt_past, down_past, told_past, logged}
 use Rattle.aip_host.specs.StandsFor.{StandsFor, DisksServe}
 use Rattle.aip_host.proofs.Grown.{next_with, stop_with, halt_with, down_with, told_with, now_with, told_alike, up_before, next_put, stop_put, halt_put, down_put, told_put, noted_put, frames_with_put, logged_stands, logged_room, no_restart, no_stop, no_halt, no_ticks}

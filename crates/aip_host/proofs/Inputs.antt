@@ -26,7 +26,7 @@ use Rattle.aip_rules.specs.State.{now_of, ticks_of, is_down, is_fall_of, is_rest
 use Rattle.aip_rules.specs.Nodes.{is_guarded}
 use Rattle.aip_rules.specs.Reaction.{numbered}
 use Rattle.aip_rules.specs.Host.{back_up, kept_events}
-use Rattle.aip_rules.specs.Standing.{standing, acts, lets_act, reaches_host, frames_put, noted_in, next_leaf, past_leaf, told_to, told_in}
+use Rattle.aip_rules.specs.Standing.{standing, acts, lets_act, reaches_host, frames_put, noted_in, past_leaf, told_to, told_in}
 use Rattle.aip_rules.specs.Step.{has_key, with_events, after_step}
 use Rattle.aip_host.specs.Signing.{KeyState}
 use Rattle.aip_host.specs.Guarding.{GuardState, with_halt}

@@ -10,4 +10,5 @@ mod Signed
 pub mod Grown
 pub mod Corresponds
 pub mod Inputs
+mod Standing
 pub mod Elsewhere

@@ -1,11 +1,9 @@
 -- What a host does with a shut-off that its guard judges.
-use Rattle.std.proofs.Common.{◌≡◌, ◌⊎◌, inl, inr, ℕ, ◌-◌, ◌<◌, ◌≤◌, ◌&&◌, ◌||◌, max, nat_lt, nat_le, Bool, true, false, if◌then◌else◌, List, [], ◌∷◌, ◌++◌, refl, sym, ◌∙◌, ap, subst, Option, Some, None, arith}
-use Rattle.std.specs.Prelude.{IfOk, IfSome, IsSome, is_some, not, Result, Ok, Err}
-use Rattle.std.specs.Str.{bytes_eq}
-use Rattle.std.specs.List.{AllByRecursion}
+use Rattle.std.proofs.Common.{◌≡◌, ◌⊎◌, inl, inr, ℕ, ◌-◌, ◌<◌, ◌&&◌, ◌||◌, max, nat_lt, Bool, true, false, if◌then◌else◌, List, [], ◌∷◌, ◌++◌, refl, sym, ◌∙◌, ap, subst, Option, Some, None, arith}
+use Rattle.std.specs.Prelude.{IfOk, IfSome, IsSome, is_some, Result, Ok, Err}
 use Rattle.std.proofs.Math.Nat.{zero-max}
 use Rattle.std.proofs.lemmas.Bool.Decides.{nat_tests}
-use Rattle.aip_addr.specs.Ids.{is_owner, key_id_of}
+use Rattle.aip_addr.specs.Ids.{key_id_of}
 use Rattle.aip_addr.specs.declared.ids.Address.{Address}
 use Rattle.aip_addr.specs.declared.ids.KeyId.{KeyId}
 use Rattle.aip_frame.specs.declared.frame.Frame.{Frame}
@@ -14,9 +12,9 @@ use Rattle.aip_event.specs.declared.event.Event.{Event}
 use Rattle.aip_event.specs.declared.event.Event.TheVariants as event
 use Rattle.aip_event.specs.declared.event.Reason.{Reason}
 use Rattle.aip_event.specs.declared.event.Reason.TheVariants as reason
-use Rattle.sent_log.specs.Log.{Log, is_logged}
+use Rattle.sent_log.specs.Log.{Log}
 use Rattle.shutoff_filter.specs.Body.{order_in}
-use Rattle.shutoff_filter.specs.Entries.{SameInForce, in_force, is_key, is_withheld, lasts, others_in_force, withholds}
+use Rattle.shutoff_filter.specs.Entries.{SameInForce, is_key, is_withheld, others_in_force, withholds}
 use Rattle.shutoff_filter.specs.InForce.{one_key, withheld_in_force}
 use Rattle.shutoff_filter.specs.Judged.{is_full, is_in_log, refusal_number, shutoff_verdict}
 use Rattle.shutoff_filter.specs.declared.entries.Entry.{Entry}
@@ -25,7 +23,7 @@ use Rattle.shutoff_filter.specs.declared.judging.Heard.TheVariants as heard
 use Rattle.aip_rules.specs.declared.Arming.{Arming}
 use Rattle.aip_rules.specs.declared.Reaction.{Reaction}
 use Rattle.aip_rules.specs.State.{is_stop_of}
-use Rattle.aip_rules.specs.Standing.{Standing, left_entry, noted_in, past_leaf, told_in}
+use Rattle.aip_rules.specs.Standing.{left_entry, noted_in, past_leaf}
 use Rattle.aip_rules.specs.Reaction.{dropped, happens}
 use Rattle.aip_rules.specs.Host as rules
 use Rattle.aip_host.specs.declared.guard.Obeying.{Obeying}
@@ -296,3 +294,8 @@ heard_is old kept now f is same =
 -- without a guard it drops it
 pub heard_nowhere : (old : HostState) (now : ℕ) (f : Frame) → old.guard ≡ None → rules.kind_at_host (standing_of old now) f ShutOff ≡ dropped old.seat.name reason.Unguarded
 heard_nowhere old now f is = ap (λ g. rules.kind_at_host (standing_of (record old { guard = g }) now) f ShutOff) is
+
+-- an order that is obeyed is no shut-off that is refused
+pub obeyed_unheard : {A : Type 0} (name : List ℕ) (to : KeyId) (until number : ℕ) (obeying : Obeying) → happens (order_event name to until obeying) ≡ happens (event.Heard name number) → A
+obeyed_unheard name to until number Obeyed is = let same = ap (λ (r : Reaction). r.events) is in absurd cc
+obeyed_unheard name to until number (Halted call byte) is = let same = ap (λ (r : Reaction). r.events) is in absurd cc

@@ -1,6 +1,6 @@
 -- What comes of a signing of a host, and how the host stands then.
-use Rattle.std.proofs.Common.{◌≡◌, ◌≢◌, ℕ, ◌+◌, ◌≤◌, ◌==◌, ◌&&◌, ◌||◌, max, Bool, true, false, not, if◌then◌else◌, List, [], ◌∷◌, length, refl, sym, ◌∙◌, ap, subst, Option, Some, None, arith}
-use Rattle.std.specs.Prelude.{Result, Ok, Err, IfOk, IfSome, is_some}
+use Rattle.std.proofs.Common.{◌≡◌, ℕ, ◌+◌, ◌≤◌, ◌==◌, ◌||◌, max, Bool, true, false, not, if◌then◌else◌, List, [], length, refl, sym, ◌∙◌, ap, subst, Option, Some, None, arith}
+use Rattle.std.specs.Prelude.{Result, IfOk, IfSome, is_some}
 use Rattle.std.specs.Str.{bytes_eq}
 use Rattle.std.specs.List.{AllByRecursion}
 use Rattle.std.proofs.Math.Nat.{zero-max}

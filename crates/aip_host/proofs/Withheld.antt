@@ -1,5 +1,5 @@
 -- What a guard withholds.
-use Rattle.std.proofs.Common.{◌≡◌, ℕ, ◌&&◌, Bool, true, false, if◌then◌else◌, List, [], ◌∷◌, ◌++◌, refl, sym, ◌∙◌, ap, Option, Some, None, arith}
+use Rattle.std.proofs.Common.{◌≡◌, ℕ, ◌&&◌, true, false, if◌then◌else◌, List, refl, sym, ◌∙◌, ap, Option, Some, None, arith}
 use Rattle.std.specs.Prelude.{IfSome, is_some}
 use Rattle.aip_addr.specs.Ids.{key_id_of}
 use Rattle.aip_addr.specs.declared.ids.Address.{Address}

@@ -7,4 +7,5 @@ pub mod After
 pub mod Withholding
 pub mod Ended
 pub mod StandsFor
+pub mod StandsOn
 pub mod Elsewhere

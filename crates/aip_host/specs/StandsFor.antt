@@ -1,5 +1,5 @@
 -- The trace that a host stands for.
-use Rattle.std.specs.Prelude.{◌≡◌, ⊤, ℕ, Bool, true, false, if◌then◌else◌, List, [], take, Option, Some, None, is_some}
+use Rattle.std.specs.Prelude.{◌≡◌, ⊤, ℕ, false, if◌then◌else◌, List, [], take, Option, Some, None, is_some}
 use Rattle.aip_event.specs.declared.input.Target.TheVariants as target
 use Rattle.aip_topo.specs.declared.topology.Topology.{Topology}
 use Rattle.shutoff_filter.specs.Entries.{SameInForce}

@@ -14,6 +14,7 @@ use Rattle.shutoff_filter.specs.declared.judging.Heard.{Heard}
 use Rattle.shutoff_filter.specs.declared.judging.Heard.TheVariants as heard
 use Rattle.aip_rules.specs.declared.Flight.{Flight}
 use Rattle.aip_rules.specs.declared.Reaction.{Reaction}
+use Rattle.aip_rules.specs.Reaction.{happens}
 use Rattle.aip_host.specs.declared.guard.Obeying.{Obeying}
 use Rattle.aip_host.specs.declared.guard.Obeying.TheVariants.{Obeyed, Halted}
 use Rattle.aip_host.specs.Guarding.{GuardState, obeying_of}
@@ -61,3 +62,7 @@ pub record GuardFollows (now : ℕ) (name : List ℕ) (old : GuardState) (reacti
   pub halt : new.halt ≡ halt_past reaction.events name old.halt
   pub down : new.is_down ≡ down_past reaction.events name old.is_down
   pub told : SameInForce now (told_past reaction.events name old.entries) new.entries
+
+-- a shut-off that is refused leaves the guard as it was, its file included
+abbrev pub LeavesUnheard : List ℕ → Reaction → Option GuardState → Option GuardState → Type 0
+LeavesUnheard name reaction old new = (number : ℕ) → reaction ≡ happens (event.Heard name number) → new ≡ old

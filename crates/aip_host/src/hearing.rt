@@ -1,5 +1,5 @@
 // What a host with a guard does with a shut-off, and what it says once it is up again.
-ghost use Rattle.std.specs.Prelude.{◌≡◌, ◌<◌, ◌^◌, ◌++◌, None, Some, false, IfOk, IfSome, IsSome, OnOk};
+ghost use Rattle.std.specs.Prelude.{◌≡◌, ◌<◌, ◌^◌, ◌++◌, ℕ, None, Some, false, IfOk, IfSome, IsSome, OnOk};
 ghost use Rattle.aip_event.specs.declared.event.Event.TheVariants as event;
 ghost use Rattle.aip_addr.specs.Ids.{key_id_of};
 ghost use Rattle.aip_frame.specs.declared.frame.Frame.{Frame as Framed};
@@ -55,6 +55,7 @@ fn obey(
     requires few { others_in_force now sender guard.old.entries < guard.old.room }
     ensures reaction { IfOk result (λ reaction. reaction ≡ happens (order_event host sender until (obeying_of guard.old sender until))) }
     ensures follows { IfOk result (λ reaction. GuardFollows now host guard.old reaction guard.new) }
+    ensures unheard { IfOk result (λ reaction. (number : ℕ) → reaction ≡ happens (event.Heard host number) → guard.new ≡ guard.old) }
     ensures room { guard.new.room ≡ guard.old.room }
     ensures keeps { Keeps guard.new }
 {
@@ -80,6 +81,7 @@ pub fn hear(
     ensures reaction { (f : Framed) → frame_of frame.now ≡ Some f → IfOk result (λ reaction. reaction
         ≡ happens (verdict_event host guard.old (key_id_of f.from.eid) (verdict_of guard.old log.now now f))) }
     ensures follows { IfOk result (λ reaction. GuardFollows now host guard.old reaction guard.new) }
+    ensures unheard { IfOk result (λ reaction. (number : ℕ) → reaction ≡ happens (event.Heard host number) → guard.new ≡ guard.old) }
     ensures room { guard.new.room ≡ guard.old.room }
     ensures keeps { Keeps guard.new }
 {

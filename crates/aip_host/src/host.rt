@@ -9,6 +9,7 @@ ghost use Rattle.aip_rules.specs.Host.{answered, at_host, back_up, challenged, h
 ghost use Rattle.aip_rules.specs.Reaction.{happens};
 ghost use Rattle.aip_host.specs.StandsFor.{DisksServe};
 ghost use Rattle.aip_host.specs.HostState.{down_of, key_in, standing_of};
+ghost use Rattle.aip_host.specs.Withholding.{LeavesUnheard};
 ghost use Rattle.aip_host.specs.After.{Follows, IsNew, IsRestarted, halted_in, stopped_in};
 
 use crate::answering::{answer, challenge_in};
@@ -58,9 +59,8 @@ impl Model for Host {
 impl Host {
     ghost use Rattle.aip_rules.specs.Step.{has_key};
 
-    /// A host at its seat, with its port of its router, that has put nothing. The key is that of its tree, with no leaf
-    /// spent. A guard, if it has one, was told nothing. The only error is want of memory.
-    pub fn new(
+    // A host that has put nothing, whose key has spent no leaf, and whose guard was told nothing.
+    pub(crate) fn begin(
         alloc: Global,
         seat: Seat,
         towards: Target,
@@ -132,9 +132,8 @@ impl Host {
         Ok(reaction)
     }
 
-    /// Sends a packet of data. While the host is down it is dropped. The only error is want of memory: then nothing
-    /// changes.
-    pub fn send(
+    // Sends a packet of data, or drops it while it is down.
+    pub(crate) fn emit(
         &mut self,
         alloc: Global,
         now: u64,
@@ -158,9 +157,13 @@ impl Host {
         self.put(alloc, now, bytes)
     }
 
-    /// Puts bytes as they are. While the host is down they are dropped. The only error is want of memory: then nothing
-    /// changes.
-    pub fn raw(&mut self, alloc: Global, now: u64, bytes: &[u8]) -> Result<Reaction, Memory>
+    // Puts bytes, or drops them while it is down.
+    pub(crate) fn emit_raw(
+        &mut self,
+        alloc: Global,
+        now: u64,
+        bytes: &[u8],
+    ) -> Result<Reaction, Memory>
         requires soon { now < 2 ^ 48 }
         ensures reaction { IfOk result (λ reaction. reaction ≡ put_by (standing_of self.old now) bytes.now) }
         ensures follows { IfOk result (λ reaction. Follows now self.old reaction self.new) }
@@ -175,12 +178,12 @@ impl Host {
         self.put(alloc, now, bytes)
     }
 
-    /// What the host does where bytes arrive. The only error is want of memory: then a leaf may be spent, and the run
-    /// can't go on.
-    pub fn arrive(&mut self, alloc: Global, now: u64, bytes: &[u8]) -> Result<Reaction, Memory>
+    // What it does where bytes arrive.
+    pub(crate) fn meet(&mut self, alloc: Global, now: u64, bytes: &[u8]) -> Result<Reaction, Memory>
         requires soon { now < 2 ^ 48 }
         ensures reaction { IfOk result (λ reaction. reaction ≡ at_host (standing_of self.old now) bytes.now) }
         ensures follows { IfOk result (λ reaction. Follows now self.old reaction self.new) }
+        ensures unheard { IfOk result (λ reaction. LeavesUnheard self.old.seat.name reaction self.old.guard self.new.guard) }
         ensures disks { DisksServe self.new }
         ensures seat { self.new.seat ≡ self.old.seat }
     {
@@ -208,6 +211,7 @@ impl Host {
         requires challenge { frame.now.kind ≡ Kind.Challenge → length frame.now.body ≡ 154 }
         ensures reaction { IfOk result (λ reaction. reaction ≡ taken_at_host (standing_of self.old now) (Some frame.now)) }
         ensures follows { IfOk result (λ reaction. Follows now self.old reaction self.new) }
+        ensures unheard { IfOk result (λ reaction. LeavesUnheard self.old.seat.name reaction self.old.guard self.new.guard) }
         ensures disks { DisksServe self.new }
         ensures seat { self.new.seat ≡ self.old.seat }
     {
@@ -244,6 +248,7 @@ impl Host {
         ensures reaction { (f : Framed) → frame_of bytes.now ≡ Some f
             → IfOk result (λ reaction. reaction ≡ kind_at_host (standing_of self.old now) f Kind.ShutOff) }
         ensures follows { IfOk result (λ reaction. Follows now self.old reaction self.new) }
+        ensures unheard { IfOk result (λ reaction. LeavesUnheard self.old.seat.name reaction self.old.guard self.new.guard) }
         ensures disks { DisksServe self.new }
         ensures seat { self.new.seat ≡ self.old.seat }
     {
@@ -261,6 +266,7 @@ impl Host {
         ensures reaction { IfOk result (λ reaction. reaction
             ≡ challenged (standing_of self.old now) challenge.now (asked_in challenge.now.body)) }
         ensures follows { IfOk result (λ reaction. Follows now self.old reaction self.new) }
+        ensures guard { self.new.guard ≡ self.old.guard }
         ensures disks { DisksServe self.new }
         ensures seat { self.new.seat ≡ self.old.seat }
     {
@@ -282,6 +288,7 @@ impl Host {
         ensures reaction { IfOk result (λ reaction. reaction
             ≡ answered (standing_of self.old now) challenge.now (key_in self.old.key)) }
         ensures follows { IfOk result (λ reaction. Follows now self.old reaction self.new) }
+        ensures guard { self.new.guard ≡ self.old.guard }
         ensures disks { DisksServe self.new }
         ensures seat { self.new.seat ≡ self.old.seat }
     {
@@ -296,9 +303,8 @@ impl Host {
         }
     }
 
-    /// Signs a shut-off that names a frame, and lasts so many ticks. While the host is down it is dropped. The only error
-    /// is want of memory: then a leaf may be spent, and the run can't go on.
-    pub fn shut(
+    // Signs a shut-off that names a frame, or drops it while it is down.
+    pub(crate) fn demand(
         &mut self,
         alloc: Global,
         now: u64,
@@ -334,9 +340,8 @@ impl Host {
         }
     }
 
-    /// Arms a stop of its signings at the call of the next one, 1 or 2, which leaves the byte. It takes the place of one
-    /// that is armed. While the host is down nothing changes.
-    pub fn stop(&mut self, call: u8, byte: u8)
+    // Arms a stop of its key, if it has one.
+    pub(crate) fn arm_stop(&mut self, call: u8, byte: u8)
         requires key { has_key (key_in self.old.key) ≡ true }
         requires first { 1 ≤ call }
         requires last { call ≤ 2 }
@@ -349,9 +354,8 @@ impl Host {
         }
     }
 
-    /// Arms a halt at the call of its guard's next write, 1 to 4, which leaves the byte. It takes the place of one that is armed.
-    /// Without a guard, or while that is down, nothing changes.
-    pub fn halt(&mut self, call: u8, byte: u8)
+    // Arms a halt of its guard, if it has one.
+    pub(crate) fn arm_halt(&mut self, call: u8, byte: u8)
         requires first { 1 ≤ call }
         requires last { call ≤ 4 }
         ensures halt { self.new ≡ record self.old { guard = halted_in self.old.guard (record { call = call; byte = byte }) } }
@@ -378,9 +382,8 @@ impl Host {
         }
     }
 
-    /// Starts the host anew: its log is empty, and its disks are restarted. A guarded host then tells what is in force. The only
-    /// error is want of memory: the host is up then too.
-    pub fn restart(&mut self, alloc: Global, now: u64) -> Result<Reaction, Memory>
+    // Starts anew, and a guarded host tells what is in force.
+    pub(crate) fn rise(&mut self, alloc: Global, now: u64) -> Result<Reaction, Memory>
         requires soon { now < 2 ^ 48 }
         ensures reaction { IfOk result (λ reaction. reaction ≡ back_up (standing_of self.old now)) }
         ensures restarted { IsRestarted self.old self.new }

@@ -125,16 +125,16 @@ pub fn drop_in(reaction: &Reaction) -> Option<Reason> {
     }
 }
 
-// The leaf that signed, if that is all that happened.
-fn leaf_in(reaction: &Reaction) -> Option<u64> {
+/// The leaf that signed, if that is all that happened.
+pub fn leaf_in(reaction: &Reaction) -> Option<u64> {
     match reaction.events.as_slice() {
         [Event::Signed { host: _, leaf }] => Some(*leaf),
         _ => None,
     }
 }
 
-// The leaf at which a stop fell, if that is all that happened.
-fn stop_in(reaction: &Reaction) -> Option<u64> {
+/// The leaf at which a stop fell, if that is all that happened.
+pub fn stop_in(reaction: &Reaction) -> Option<u64> {
     match (reaction.events.as_slice(), &reaction.put) {
         (
             [

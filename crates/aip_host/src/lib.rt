@@ -11,6 +11,7 @@
 #![tactic(auto)]
 
 mod answering;
+mod calls;
 mod falls;
 mod framing;
 mod guard;
@@ -32,5 +33,7 @@ mod guard_tests;
 mod guarded_tests;
 #[cfg(test)]
 mod host_tests;
+#[cfg(test)]
+mod leaf_tests;
 #[cfg(test)]
 mod tests;
