@@ -3,7 +3,7 @@
 //! signature as often, and with no word it does each twice.
 #![tactic(auto)]
 
-ghost use Rattle.std.specs.Prelude.{◌<◌, IfSome, IsSome};
+ghost use Rattle.std.specs.Prelude.{◌≡◌, ◌<◌, IfSome, IsSome};
 ghost use Rattle.aip_frame.specs.Frame.{frame_of};
 ghost use Rattle.aip_frame.specs.declared.frame.Kind.TheVariants as kind;
 
