@@ -130,17 +130,22 @@ fn an_answer_is_proved_for_two_epochs(rt: HostRuntime) -> Result<(), Fail> {
     Ok(())
 }
 
+// The response for port 9, with the router's tag for it.
+fn of_port_9(alloc: Global, frame: &[u8]) -> Result<Vec<u8>, Fail> {
+    let other = altered(alloc, frame, 202, b"\x00\x09")?;
+    altered(alloc, &other, 212, &TAG_OF_PORT_9)
+}
+
 #[test]
 fn each_refusal_comes_in_its_turn(rt: HostRuntime) -> Result<(), Fail> {
     let alloc = rt.alloc();
     let frame = response(alloc)?;
-    let rows: [(usize, &[u8], u64); 8] = [
+    let rows: [(usize, &[u8], u64); 7] = [
         (109, b"\x01", 2),
         (169, b"\x01", 2),
         (212, b"\x00", 4),
         (243, b"\x00", 4),
         (202, b"\x00\x09", 4),
-        (244, &OTHER_KEY, 6),
         (2647, b"\x00", 7),
         (300, b"\x00\x00\x00\x01", 7),
     ];
@@ -148,30 +153,77 @@ fn each_refusal_comes_in_its_turn(rt: HostRuntime) -> Result<(), Fail> {
         let other = altered(alloc, &frame, place, bytes)?;
         assert_eq!(rt; number_at(0, &other), number);
     }
-    let ninth = altered(alloc, &frame, 202, b"\x00\x09")?;
-    let ninth = altered(alloc, &ninth, 212, &TAG_OF_PORT_9)?;
-    assert_eq!(rt; number_at(0, &ninth), 5);
+    Ok(())
+}
+
+// The response cut to a length; with `mended`, with the length that is left as the length of its body.
+fn cut(alloc: Global, frame: &[u8], length: u16, mended: bool) -> Result<Vec<u8>, Fail> {
+    let mut part = Vec::from_slice(alloc, frame)?;
+    part.truncate(length.into());
+    if mended {
+        return altered(alloc, &part, 88, &length.saturating_sub(90).to_be_bytes());
+    }
+    Ok(part)
+}
+
+// What the response comes to that is cut to a length and mended: no frame has fewer than 90 bytes, no body of a response
+// that is read fewer than 210, and no shorter signature is valid.
+fn number_of_cut(length: u16) -> u64 {
+    if length < 90 {
+        9
+    } else if length < 300 {
+        1
+    } else {
+        7
+    }
+}
+
+// The response with one bit turned, counted from its first.
+fn turned(alloc: Global, frame: &[u8], bit: usize) -> Result<Vec<u8>, Fail> {
+    let mut other = Vec::from_slice(alloc, frame)?;
+    if let Some(byte) = other.get_mut(bit / 8) {
+        *byte ^= 0x80 >> (bit % 8);
+    }
+    Ok(other)
+}
+
+#[test]
+fn an_altered_response_is_refused(rt: HostRuntime) -> Result<(), Fail> {
+    let alloc = rt.alloc();
+    let frame = response(alloc)?;
+    'lengths: for length in 1..2648 {
+        assert_eq!(rt; number_at(0, &cut(alloc, &frame, length, false)?), 9);
+        assert_eq!(rt;
+            number_at(0, &cut(alloc, &frame, length, true)?),
+            number_of_cut(length)
+        );
+    }
+    // The tag's 32 bytes begin at byte 212.
+    'bits: for bit in 1696..1952 {
+        assert_eq!(rt; number_at(0, &turned(alloc, &frame, bit)?), 4);
+    }
+    assert_eq!(rt; number_at(0, &of_port_9(alloc, &frame)?), 5);
+    assert_eq!(rt; number_at(0, &altered(alloc, &frame, 244, &OTHER_KEY)?), 6);
     Ok(())
 }
 
 #[test]
-fn a_response_that_is_cut_is_refused(rt: HostRuntime) -> Result<(), Fail> {
+fn the_first_refusal_decides(rt: HostRuntime) -> Result<(), Fail> {
     let alloc = rt.alloc();
     let frame = response(alloc)?;
-    for length in [1usize, 89, 90, 91, 243, 299, 300, 301, 2000, 2647] {
-        let mut cut = Vec::from_slice(alloc, &frame)?;
-        cut.truncate(length);
-        assert_eq!(rt; number_at(0, &cut), 9);
-        let body = length.saturating_sub(90) as u16;
-        let mended = altered(alloc, &cut, 88, &body.to_be_bytes())?;
-        let number = if length < 90 {
-            9
-        } else if length < 300 {
-            1
-        } else {
-            7
-        };
-        assert_eq!(rt; number_at(0, &mended), number);
-    }
+    // Each has the faults of the one before, and one that is looked for earlier.
+    let seventh = altered(alloc, &frame, 2647, b"\x00")?;
+    let sixth = altered(alloc, &seventh, 244, &OTHER_KEY)?;
+    let fifth = of_port_9(alloc, &sixth)?;
+    let fourth = turned(alloc, &fifth, 1951)?;
+    let second = altered(alloc, &fourth, 109, b"\x01")?;
+    let first = cut(alloc, &second, 299, true)?;
+    assert_eq!(rt; number_at(0, &seventh), 7);
+    assert_eq!(rt; number_at(0, &sixth), 6);
+    assert_eq!(rt; number_at(0, &fifth), 5);
+    assert_eq!(rt; number_at(0, &fourth), 4);
+    assert_eq!(rt; number_at(120, &fourth), 3);
+    assert_eq!(rt; number_at(120, &second), 2);
+    assert_eq!(rt; number_at(120, &first), 1);
     Ok(())
 }
