@@ -16,15 +16,12 @@ use std::test::Fail;
 const TOPOLOGY: &[u8] =
     b"domain d id 0111111111111111111111111111111111111100\nrouter r d open 0000000000000000000000000000000000000000000000000000000000000000\nhost a r guarded seed W4 H5 0 0101010101010101010101010101010101010101010101010101010101010101\nhost b r guarded seed W4 H5 0 0202020202020202020202020202020202020202020202020202020202020202\nhost c r guarded seed W4 H5 0 0303030303030303030303030303030303030303030303030303030303030303\n";
 
-// The last flight in which each host sent a packet to each.
-type Packets = [[Option<u64>; 3]; 3];
-
-// What is drawn, what was counted, and the packets that may be named.
+// What is drawn, what was counted, and the last flight in which each host sent a packet to each.
 #[derive(Drop)]
 struct Draws {
     rng: Xoshiro256PlusPlus,
     counts: Counts,
-    packets: Packets,
+    packets: [Option<u64>; 9],
 }
 
 fn topology(alloc: Global) -> Result<Topology, Fail>
@@ -104,7 +101,7 @@ fn send(alloc: Global, core: Core, draws: &mut Draws) -> Result<Core, Fail> {
     };
     let (core, put) = step(alloc, core, &mut draws.counts, input)?;
     if put.is_some() {
-        draws.packets[from][to] = put;
+        draws.packets[3 * from + to] = put;
     }
     Ok(core)
 }
@@ -122,7 +119,7 @@ fn shut(alloc: Global, core: Core, draws: &mut Draws) -> Result<Core, Fail> {
     let from = place(&mut draws.rng);
     let to = place(&mut draws.rng);
     let ttl = 1 + below(&mut draws.rng, 30);
-    let Some(flight) = draws.packets[to][from] else {
+    let Some(flight) = draws.packets[3 * to + from] else {
         return Ok(core);
     };
     let host = name(from)?;
@@ -229,7 +226,7 @@ fn run(alloc: Global, seed: u64, turns: u32) -> Result<Counts, Fail> {
     let mut draws = Draws {
         rng: Xoshiro256PlusPlus::seed_from_u64(seed),
         counts: Counts::new(),
-        packets: [[None; 3]; 3],
+        packets: [None; 9],
     };
     let mut core = Core::new(alloc, topology(alloc)?)?;
     for _ in 0..turns {
