@@ -58,7 +58,10 @@ fn first_free(bytes: &[u8]) -> usize {
 
 // Whether a line is the whole record, signed with this leaf.
 fn is_whole(line: &[u8], leaf: usize) -> bool {
-    let digits = [b"0123456789abcdef"[leaf / 16 % 16], b"0123456789abcdef"[leaf % 16]];
+    let digits = [
+        b"0123456789abcdef"[leaf / 16 % 16],
+        b"0123456789abcdef"[leaf % 16],
+    ];
     line.len() == 4925
         && line.starts_with(FRONT)
         && line.get(DIGITS..DIGITS + 6) == Some(b"000000".as_slice())

@@ -12,14 +12,14 @@ use Rattle.aip_io.specs.Sink.{and_then, TookPart}
 use Rattle.aip_registry.specs.declared.records.Record.{Record}
 use Rattle.record_signer.specs.declared.faults.SigningFault.{SigningFault}
 use Rattle.record_signer.specs.declared.faults.SigningFault.TheVariants as signing
-use Rattle.record_signer.specs.Signed.{IsOrCut, Signs, SparesBut, leaf_of, next_leaf, signed_by, signed_line}
+use Rattle.record_signer.specs.Signed.{IsOrCut, Signs, SparesBut, is_refusal, leaf_of, next_leaf, signed_by, signed_line}
 use Rattle.aip_top.specs.declared.status.Status.{Status}
 use Rattle.aip_top.specs.declared.status.Status.TheVariants as status
 use Rattle.aip_top.specs.declared.issue.Draft.{Draft}
 use Rattle.aip_top.specs.Commands.{RecordDone, RecordOf}
 use Rattle.aip_top.specs.Draft.{IsDrafted}
 use Rattle.aip_top.specs.Judged.{IsEarly, IsOrMemory, IsUnread}
-use Rattle.aip_top.specs.Recording.{Drafted, Denied, Drafts, HasWritten, IsFault, KeepsRecords, OfDraft, denial_in, record_end, status_unsigned}
+use Rattle.aip_top.specs.Recording.{Drafted, Denied, Drafts, HasWritten, IsFault, IsRefusedByFile, KeepsRecords, OfDraft, denial_in, record_end, status_unsigned}
 use Rattle.aip_top.specs.Written.{WritesOnDone}
 use Rattle.aip_top.proofs.Leases.{took_nothing}
 
@@ -54,6 +54,19 @@ unwritten (signing.OtherKey id height) is = elim is [ inl i ↦ cc | inr i ↦ c
 unwritten (signing.Dry height) is = elim is [ inl i ↦ cc | inr i ↦ cc ]
 unwritten signing.Memory is = elim is [ inl i ↦ cc | inr i ↦ cc ]
 
+-- a refusal by the file, as a status, is one as an answer
+refusal_of : (f : SigningFault) → IsRefusedByFile (status_unsigned f) → is_refusal (Err f) ≡ true
+refusal_of signing.Disk is = absurd is
+refusal_of (signing.Unformatted size gate) is = refl
+refusal_of (signing.OtherKey id height) is = refl
+refusal_of (signing.Dry height) is = refl
+refusal_of signing.Memory is = absurd is
+
+-- what was to be written the file didn't refuse
+not_refused : (end : Status) → (end ≡ status.WriteFault) ⊎ (end ≡ status.Done) → IsRefusedByFile end → ⊥
+not_refused end (inl is) refused = subst IsRefusedByFile is refused
+not_refused end (inr is) refused = subst IsRefusedByFile is refused
+
 -- ## Over a disk
 
 module _ {D : Type 0} (content : D → Option (List ℕ)) (may_leave : D → List ℕ → Type 0) (clock : D → ℕ) (during : D → ℕ → List ℕ → Type 0) where
@@ -71,6 +84,8 @@ module _ {D : Type 0} (content : D → Option (List ℕ)) (may_leave : D → Lis
     signed = λ was file is. sym (gives file is) ∙ ap Ok signs.line;
     gone = λ was. signs.gone;
     writes = subst (λ text. WritesOnDone text end old new) signs.line writes;
+    looks = λ refused. absurd (not_refused end put refused);
+    spared = signs.spared;
     spares = signs.spares;
   }
     where
@@ -92,6 +107,8 @@ module _ {D : Type 0} (content : D → Option (List ℕ)) (may_leave : D → Lis
     signed = λ was. absurd (unwritten f (subst HasWritten is was));
     gone = λ was. absurd (unwritten f (subst HasWritten is was));
     writes = record { whole = λ done. absurd (unwritten f (subst HasWritten is (inl done))); part = took_nothing old (signed_line key signs.leaf r) };
+    looks = λ refused. signs.looks (refusal_of f (subst IsRefusedByFile is refused));
+    spared = signs.spared;
     spares = signs.spares;
   }
 
@@ -119,13 +136,16 @@ module _ {D : Type 0} (content : D → Option (List ℕ)) (may_leave : D → Lis
     ticks = omega arith;
   }
 
-  pub keeps_same : ((disk : D) (image : List ℕ) → during disk (clock disk) image → may_leave disk image) → (disk : D) → KeepsRecords may_leave clock during disk disk
-  keeps_same only disk = record { leaf = 0; spares = spares_same only 0 disk; gone = λ l all image left. all image left }
+  looked_same : ((disk : D) (image : List ℕ) → during disk (clock disk) image → may_leave disk image) → (disk : D) → AtEachMoment clock during disk disk (may_leave disk)
+  looked_same only disk = at_start may_leave clock during disk (may_leave disk) (only disk) (λ image left. left)
+
+  pub keeps_same : ((disk : D) (image : List ℕ) → during disk (clock disk) image → may_leave disk image) → (end : Status) (disk : D) → KeepsRecords may_leave clock during end disk disk
+  keeps_same only end disk = record { leaf = 0; looks = λ refused. looked_same only disk; spares = spares_same only 0 disk; gone = λ l all image left. all image left }
 
   -- a leaf that stays gone at each moment is gone in the disk that comes back
-  pub keeps_done : ((disk : D) (t : ℕ) (image : List ℕ) → t ≤ clock disk → may_leave disk image → during disk t image) → (leaf : ℕ) (disk after : D) → SparesBut may_leave clock during leaf disk after
-      → KeepsRecords may_leave clock during disk after
-  keeps_done counts leaf disk after spares = record { leaf = leaf; spares = spares; gone = λ l all image left. spares.gone l all image (counts after (clock disk) image spares.moments.later left) }
+  pub keeps_done : ((disk : D) (t : ℕ) (image : List ℕ) → t ≤ clock disk → may_leave disk image → during disk t image) → (leaf : ℕ) (end : Status) (disk after : D) → SparesBut may_leave clock during leaf disk after
+      → (IsRefusedByFile end → AtEachMoment clock during disk after (may_leave disk)) → KeepsRecords may_leave clock during end disk after
+  keeps_done counts leaf end disk after spares looks = record { leaf = leaf; looks = looks; spares = spares; gone = λ l all image left. spares.gone l all image (counts after (clock disk) image spares.moments.later left) }
 
   -- a record that ends before the disk is met leaves it as it was
   pub before_disk : ((disk : D) (image : List ℕ) → during disk (clock disk) image → may_leave disk image) → (t : Option (List ℕ)) (drafted : List ℕ → Drafted) (unread unwritten failed : Type 0) (end : Status) (disk : D) (old : Option (List ℕ))
@@ -152,6 +172,8 @@ module _ {D : Type 0} (content : D → Option (List ℕ)) (may_leave : D → Lis
         signed = λ was. absurd (not_written end unread was);
         gone = λ was. absurd (not_written end unread was);
         writes = record { whole = λ done. absurd (not_written end unread (inl done)); part = took_nothing old (signed_line key (leaf_of key (content disk)) r) };
+        looks = λ refused. looked_same only disk;
+        spared = λ file is refused. looked_same only disk;
         spares = spares_same only (leaf_of key (content disk)) disk;
       }
 

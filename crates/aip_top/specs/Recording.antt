@@ -3,6 +3,7 @@ use Rattle.std.specs.Prelude.{◌≡◌, ◌⊎◌, ℕ, ⊤, ◌≤◌, Bool, t
 use Rattle.std.specs.Option.{ForSome}
 use Rattle.std.specs.Str.{bytes_eq}
 use Rattle.lms_core.specs.Tree.{Key}
+use Rattle.lease_disk.specs.Images.{AtEachMoment}
 use Rattle.leaf_lease.specs.Kept.{KeepsGone}
 use Rattle.aip_addr.specs.declared.ids.Id.{Id}
 use Rattle.aip_topo.specs.declared.topology.Domain.{Domain}
@@ -110,14 +111,22 @@ record_end (Err f) = status_unsigned f
 abbrev pub HasWritten : Status → Type 0
 HasWritten end = (end ≡ status.Done) ⊎ (end ≡ status.WriteFault)
 
+-- the lease file refuses the record: its gate is closed, it is short or of another key, or no leaf is left
+abbrev pub IsRefusedByFile : Status → Type 0
+IsRefusedByFile (status.Lease (fault.Unformatted size gate)) = ⊤
+IsRefusedByFile (status.Lease (fault.OtherKey id height)) = ⊤
+IsRefusedByFile (status.Lease (fault.Dry height)) = ⊤
+IsRefusedByFile _ = ⊥
+
 -- a fault of reading, writing or the disk, or want of memory
 abbrev pub IsFault : Status → Type 0
 IsFault end = (end ≡ status.ReadFault) ⊎ ((end ≡ status.WriteFault) ⊎ ((end ≡ status.DiskFault) ⊎ (end ≡ status.Memory)))
 
 -- What a record leaves of a disk, whatever the answer: but for the byte of one leaf each image of each moment is as it was
 -- at the start, no leaf that was gone is free again, at any moment and in the disk that comes back, no image grows, and the
--- clock rises by at most 3.
-pub record KeepsRecords {D : Type 0} (may_leave : D → List ℕ → Type 0) (clock : D → ℕ) (during : D → ℕ → List ℕ → Type 0) (old new : D) : Type 0 where
+-- clock rises by at most 3. Where the lease file refuses the record, that leaf's byte too is as it was.
+pub record KeepsRecords {D : Type 0} (may_leave : D → List ℕ → Type 0) (clock : D → ℕ) (during : D → ℕ → List ℕ → Type 0) (end : Status) (old new : D) : Type 0 where
   pub leaf : ℕ
+  pub looks : IsRefusedByFile end → AtEachMoment clock during old new (may_leave old)
   pub spares : SparesBut may_leave clock during leaf old new
   pub gone : KeepsGone (may_leave old) (may_leave new)

@@ -191,7 +191,7 @@ pub fn issue<S: Shelf, K: Sink, D: Disk>(
     ensures judged { IfSome (S.text shelf.old topology.now) (λ told. Judges (denial_in (drafted_of told said.now))
         (Rose (S.faults shelf.old topology.now) (S.faults shelf.new topology.now))
         ((out.new ≡ out.old) × (result.1 ≡ disk)) result.0) }
-    ensures keeps { KeepsRecords D.may_leave D.clock D.during disk result.1 }
+    ensures keeps { KeepsRecords D.may_leave D.clock D.during result.0 disk result.1 }
     ensures belongs { (kind_of result.0).answers (Some (Recorded (record { topology = topology.now; said = said.now }))) ≡ true }
     ensures quiet { (kind_of result.0).writes (Some (Recorded (record { topology = topology.now; said = said.now }))) ≡ false
         → out.new ≡ out.old }

@@ -29,7 +29,8 @@ use std::alloc::Global;
 /// refused. `address TOPO` writes the addresses of the domains, routers and hosts. `lease TOPO DOMAIN` formats the disk as
 /// the lease file of the domain's key, unless it is a lease file already, and writes the key's identifier and height.
 /// `record TOPO DOMAIN peer DOMAIN NUMBER UNTIL` and `record TOPO DOMAIN bind HOST NUMBER UNTIL` sign a record with the next
-/// leaf of the domain's lease file, once it is gone there, and write it as a line of hex. `registry TOPO RECORDS` writes the list of the newest of the records, unless a line of their file is refused.
+/// leaf of the domain's lease file, once it is gone there, and write it as a line of hex. `registry TOPO RECORDS` writes the
+/// list of the newest of the records, unless a line of their file is refused.
 #[tactic(auto, using(crate::proofs::Promised::justified, crate::proofs::Promised::silent, crate::proofs::Promised::leaf_once))]
 pub fn aip<S: Shelf, K: Sink, D: Disk>(
     alloc: Global,
@@ -95,7 +96,7 @@ pub fn aip<S: Shelf, K: Sink, D: Disk>(
     // What a lease and a record leave on the disk at each moment, told or not.
     ensures lease_keeps { OfLease (spelled words.now) (λ leased.
         KeepsLeases D.now D.may_leave D.clock D.during result.0 disk result.1) }
-    ensures record_keeps { OfRecord (spelled words.now) (λ stated. KeepsRecords D.may_leave D.clock D.during disk result.1) }
+    ensures record_keeps { OfRecord (spelled words.now) (λ stated. KeepsRecords D.may_leave D.clock D.during result.0 disk result.1) }
 
     // The core of a run comes back exactly on Done and Schedule.
     ensures core { is_some result.2 ≡ (kind_of result.0).gives_core (spelled words.now) }
