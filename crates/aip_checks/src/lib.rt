@@ -7,6 +7,8 @@ mod count;
 #[cfg(test)]
 mod random_tests;
 #[cfg(test)]
+mod record_tests;
+#[cfg(test)]
 mod run_tests;
 #[cfg(test)]
 mod tests;
