@@ -39,6 +39,8 @@ pub use slots::Slots;
 pub use store::FilterStore;
 
 #[cfg(test)]
+mod fault_tests;
+#[cfg(test)]
 mod store_tests;
 #[cfg(test)]
 mod tests;

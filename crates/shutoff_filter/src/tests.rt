@@ -128,6 +128,45 @@ fn each_refusal_comes_in_its_turn(rt: HostRuntime) -> Result<(), Fail> {
     Ok(())
 }
 
+// The frame cut to a length; with `mended`, with the length that is left as the length of its body.
+fn cut(alloc: Global, frame: &[u8], length: u16, mended: bool) -> Result<Vec<u8>, Fail> {
+    let mut part = Vec::from_slice(alloc, frame)?;
+    part.truncate(length.into());
+    if mended {
+        return altered(alloc, &part, 88, &length.saturating_sub(90).to_be_bytes());
+    }
+    Ok(part)
+}
+
+// What the shut-off comes to that is cut to a length and mended: no frame has fewer than 90 bytes, no body that is read fewer
+// than 100, and no shorter signature is valid.
+fn number_of_cut(length: u16) -> u64 {
+    if length < 90 {
+        9
+    } else if length < 190 {
+        1
+    } else {
+        3
+    }
+}
+
+#[test]
+fn an_altered_shut_off_is_refused(rt: HostRuntime) -> Result<(), Fail> {
+    let alloc = rt.alloc();
+    let slots = Slots::new(alloc, 1)?;
+    let log = log(alloc)?;
+    let frame = shutoff(alloc, 0)?;
+    'lengths: for length in 1..2538 {
+        let short = cut(alloc, &frame, length, false)?;
+        assert_eq!(rt; number_at(&slots, &log, &short, 0), 9);
+        let mended = cut(alloc, &frame, length, true)?;
+        assert_eq!(rt; number_at(&slots, &log, &mended, 0), number_of_cut(length));
+    }
+    assert_eq!(rt; frame.len(), 2538);
+    assert_eq!(rt; number_at(&slots, &log, &shutoff(alloc, 1)?, 0), 4);
+    Ok(())
+}
+
 #[test]
 fn a_full_filter_takes_no_other_key(rt: HostRuntime) -> Result<(), Fail> {
     let alloc = rt.alloc();
@@ -172,29 +211,6 @@ fn a_filter_of_room_1_has_59_bytes(rt: HostRuntime) -> Result<(), Fail> {
             assert!(rt; is_empty_filter(&disk));
         }
         _ => panic!(rt; "a filter is formatted twice"),
-    }
-    Ok(())
-}
-
-#[test]
-fn a_format_is_done_again_after_a_call_that_fails(rt: HostRuntime) -> Result<(), Fail> {
-    let alloc = rt.alloc();
-    for call in 1..9 {
-        let mut disk = MemDisk::new(alloc, 59, [call].to_vec(alloc)?)?;
-        disk.reserve(20, 300)?;
-        let disk = match format_store(disk, 1) {
-            Err(StoreFormatEnd::Failed { disk }) => disk,
-            _ => panic!(rt; "call {call} fails"),
-        };
-        match format_store(disk, 1) {
-            Ok(disk) => assert!(rt; is_empty_filter(&disk)),
-            Err(StoreFormatEnd::Already { disk, room }) => {
-                assert_eq!(rt; room, 1);
-                assert_eq!(rt; call, 8);
-                assert!(rt; is_empty_filter(&disk));
-            }
-            Err(StoreFormatEnd::Failed { .. }) => panic!(rt; "a second call fails"),
-        }
     }
     Ok(())
 }
