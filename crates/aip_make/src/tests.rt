@@ -28,13 +28,16 @@ fn small(alloc: Global, n: u32, lines: u32) -> Result<Summary, MadeEnd>
 
 #[test]
 fn no_lines_have_the_empty_trace(rt: HostRuntime) -> Result<(), Fail> {
-    let text = made(rt.alloc(), 1, 0)?.text(rt.alloc())?;
+    let text = small(rt.alloc(), 5, 0)?.text(rt.alloc())?;
     assert_eq!(rt; text.as_slice(), EMPTY);
     Ok(())
 }
 
+// The made topology has 24 keys: built and proved it takes seconds, and longer than `rt try` waits.
 #[test]
-fn many_lines_give_the_same_twice(rt: HostRuntime) -> Result<(), Fail> {
+fn a_made_workload_is_the_same_twice(rt: HostRuntime) -> Result<(), Fail> {
+    let text = made(rt.alloc(), 1, 0)?.text(rt.alloc())?;
+    assert_eq!(rt; text.as_slice(), EMPTY);
     assert_eq!(rt; made(rt.alloc(), 1, 2000), made(rt.alloc(), 1, 2000));
     Ok(())
 }
