@@ -17,6 +17,7 @@ mod run;
 mod status;
 mod top;
 mod topology;
+mod workload;
 mod writing;
 
 pub use aip_addr::Memory;
