@@ -1,18 +1,16 @@
 -- What signing a record comes to, by the topology and the disk.
-use Rattle.std.proofs.Common.{◌≡◌, ◌≢◌, ◌≤◌, ◌⊎◌, inl, inr, ⊎_elim, ℕ, ◌+◌, true, false, List, [], length, Option, Some, None, Ok, Err, arith, refl, ap, sym, subst, ◌∙◌}
-use Rattle.std.specs.Prelude.{IfSome, IfOk, OnOk, Result, max}
+use Rattle.std.proofs.Common.{◌≡◌, ◌≢◌, ◌≤◌, ◌⊎◌, inl, inr, ℕ, ◌+◌, true, List, length, Option, Some, None, Ok, Err, arith, refl, ap, sym, subst, ◌∙◌}
+use Rattle.std.specs.Prelude.{IfSome, Result}
 use Rattle.std.specs.Option.{ForSome}
 use Rattle.lms_core.specs.Tree.{Key}
-use Rattle.lease_disk.specs.Images.{AtEachMoment, Torn}
-use Rattle.lease_disk.specs.Kept.{AfterWrite, KeepsByte, torn_same}
+use Rattle.lease_disk.specs.Images.{AtEachMoment}
+use Rattle.lease_disk.specs.Kept.{AfterWrite, torn_same}
 use Rattle.lease_disk.specs.Moments.{at_start}
-use Rattle.leaf_lease.specs.Kept.{KeepsGone}
-use Rattle.leaf_lease.specs.LeaseFile.{IsGone, head_size}
-use Rattle.aip_io.specs.Sink.{and_then, TookPart}
+use Rattle.leaf_lease.specs.LeaseFile.{head_size}
 use Rattle.aip_registry.specs.declared.records.Record.{Record}
 use Rattle.record_signer.specs.declared.faults.SigningFault.{SigningFault}
 use Rattle.record_signer.specs.declared.faults.SigningFault.TheVariants as signing
-use Rattle.record_signer.specs.Signed.{IsOrCut, Signs, SparesBut, is_refusal, leaf_of, next_leaf, signed_by, signed_line}
+use Rattle.record_signer.specs.Signed.{IsOrCut, Signs, SparesBut, is_refusal, leaf_of, signed_by, signed_line}
 use Rattle.aip_top.specs.declared.status.Status.{Status}
 use Rattle.aip_top.specs.declared.status.Status.TheVariants as status
 use Rattle.aip_top.specs.declared.issue.Draft.{Draft}

@@ -1,6 +1,5 @@
 -- What comes of signing a record: by the topology, and by the disk.
-use Rattle.std.specs.Prelude.{◌≡◌, ◌⊎◌, ℕ, ⊤, ◌≤◌, Bool, true, false, List, find, option_map, Option, Some, None, IfSome, Result, Ok, Err}
-use Rattle.std.specs.Option.{ForSome}
+use Rattle.std.specs.Prelude.{◌≡◌, ◌⊎◌, ℕ, ⊤, Bool, false, List, find, option_map, Option, Some, None, IfSome, Result, Ok, Err}
 use Rattle.std.specs.Str.{bytes_eq}
 use Rattle.lms_core.specs.Tree.{Key}
 use Rattle.lease_disk.specs.Images.{AtEachMoment}

@@ -97,12 +97,16 @@ abbrev pub command_of_seven : List ℕ → List ℕ → List ℕ → List ℕ �
 command_of_seven word topology domain kind other number until =
     if bytes_eq word (codes "record") then stated_over topology (statement_of domain kind other number until) else None
 
+-- the command of more than three words
+abbrev pub command_of_many : List (List ℕ) → Option Command
+command_of_many (word ∷ topology ∷ domain ∷ kind ∷ other ∷ number ∷ until ∷ []) = command_of_seven word topology domain kind other number until
+command_of_many words = None
+
 -- the command that the words spell, if they spell one
 abbrev pub command_of : List (List ℕ) → Option Command
 command_of (word ∷ topology ∷ []) = command_of_two word topology
 command_of (word ∷ topology ∷ third ∷ []) = command_of_three word topology third
-command_of (word ∷ topology ∷ domain ∷ kind ∷ other ∷ number ∷ until ∷ []) = command_of_seven word topology domain kind other number until
-command_of words = None
+command_of words = command_of_many words
 
 -- the command that the words of a command line spell
 abbrev pub spelled : List (String Global) → Option Command

@@ -1,5 +1,5 @@
 ghost use Rattle.std.specs.Prelude.{◌≡◌, map, option_map, string_bytes};
-ghost use Rattle.aip_top.specs.Words.{command_of, command_of_seven, command_of_three, command_of_two, make_of, workload_number, kind_of_word, lease_of, statement_of, time_of};
+ghost use Rattle.aip_top.specs.Words.{command_of, command_of_many, command_of_seven, command_of_three, command_of_two, kind_of_word, lease_of, make_of, statement_of, time_of, workload_number};
 ghost use Rattle.aip_top.specs.Named.{named};
 
 use aip_addr::Name;
@@ -215,6 +215,18 @@ fn command_of_seven<'a>(
     }
 }
 
+// The command of more than three words.
+fn command_of_many(words: &[String]) -> Option<Command<'_>>
+    ensures { option_map named result ≡ command_of_many (map string_bytes words.now) }
+{
+    if words.len() != 7 {
+        return None;
+    }
+    command_of_seven(
+        &words[0], &words[1], &words[2], &words[3], &words[4], &words[5], &words[6],
+    )
+}
+
 /// The command that the words spell, if they spell one.
 pub fn command_of(words: &[String]) -> Option<Command<'_>>
     ensures { option_map named result ≡ command_of (map string_bytes words.now) }
@@ -222,9 +234,6 @@ pub fn command_of(words: &[String]) -> Option<Command<'_>>
     match words {
         [word, topology] => command_of_two(word, topology),
         [word, topology, third] => command_of_three(word, topology, third),
-        [word, topology, domain, kind, other, number, until] => {
-            command_of_seven(word, topology, domain, kind, other, number, until)
-        }
-        _ => None,
+        _ => command_of_many(words),
     }
 }

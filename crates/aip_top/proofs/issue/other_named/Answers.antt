@@ -1,7 +1,4 @@
-use Rattle.std.proofs.Common.{◌≡◌, List, ap, sym, ◌∙◌}
-use Rattle.std.specs.Prelude.{find}
-use Rattle.std.specs.Str.{bytes_eq}
-use Rattle.aip_topo.specs.declared.topology.Domain.{Domain}
+use Rattle.std.proofs.Common.{ap, sym, ◌∙◌}
 use Rattle.aip_registry.specs.declared.records.RecordKind.{RecordKind}
 use Rattle.aip_top.specs.Recording.{domain_id, domain_named, other_named}
 use Rattle.aip_top.proofs.issue.other_named.Goals as goal

@@ -1,4 +1,4 @@
-use Rattle.std.proofs.Common.{◌≡◌, List, ℕ, Some, Err, subst}
+use Rattle.std.proofs.Common.{subst}
 use Rattle.record_signer.specs.Signed.{IsOrCut, Signs, signed_by}
 use Rattle.aip_top.proofs.Recorded.{fault_done}
 use Rattle.aip_top.proofs.issue.put_record.Goals as goal
