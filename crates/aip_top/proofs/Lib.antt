@@ -2,3 +2,5 @@ pub mod Early
 pub mod Leases
 pub mod Promised
 pub mod RecordLists
+pub mod Recorded
+pub mod Summing

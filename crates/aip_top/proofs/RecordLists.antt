@@ -20,7 +20,7 @@ use Rattle.aip_top.proofs.Leases.{and_nothing, took_nothing}
 -- ## A topology that is read
 
 -- an answer that is expected or cut short, where nothing failed
-ends_or : (end expected : Status) (A B : Type 0) → ((kind_of end).cuts_short ≡ true) ⊎ (end ≡ expected) → (end ≡ status.ReadFault → A) → (end ≡ status.WriteFault → B) → (A → ⊥) → (B → ⊥) → IsOrMemory expected end
+pub ends_or : (end expected : Status) (A B : Type 0) → ((kind_of end).cuts_short ≡ true) ⊎ (end ≡ expected) → (end ≡ status.ReadFault → A) → (end ≡ status.WriteFault → B) → (A → ⊥) → (B → ⊥) → IsOrMemory expected end
 ends_or end expected A B (inr is) read put a b = inl is
 ends_or status.ReadFault expected A B (inl short) read put a b = absurd (a (read refl))
 ends_or status.WriteFault expected A B (inl short) read put a b = absurd (b (put refl))
@@ -37,6 +37,9 @@ ends_or (status.Lease f) expected A B (inl short) read put a b = absurd (kept f 
     kept fault.Unknown short = cc
     kept fault.Keyless short = cc
     kept (fault.Already id height) short = cc
+    kept (fault.Unformatted size gate) short = cc
+    kept (fault.OtherKey id height) short = cc
+    kept (fault.Dry height) short = cc
 
 -- what was listed over a topology that was read
 pub listed : (t s mid : Option (List ℕ)) (topo : Topology) (unread unwritten : Type 0) (end : Status) (old new : Option (List ℕ)) → mid ≡ s → IfSome t (λ told. topology_of told ≡ Ok topo)

@@ -6,5 +6,8 @@ pub mod Written
 pub mod Addresses
 pub mod Listings
 pub mod Leasing
+pub mod Recording
+pub mod Draft
+pub mod Workloads
 pub mod Commands
 pub mod Wanted

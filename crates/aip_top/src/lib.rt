@@ -10,12 +10,14 @@
 
 mod address;
 mod command;
+mod issue;
 mod lease;
 mod registry;
 mod run;
 mod status;
 mod top;
 mod topology;
+mod workload;
 mod writing;
 
 pub use aip_addr::Memory;
