@@ -11,7 +11,7 @@ use Rattle.aip_top.specs.declared.status.Status.TheVariants as status
 use Rattle.aip_top.specs.Commands.{MakeOf}
 use Rattle.aip_top.specs.Statuses.{kind_of, status_without_summary}
 use Rattle.aip_top.specs.Workloads.{given_by, workload_end, workload_text}
-use Rattle.aip_top.specs.Written.{Writes, WritesOnDone}
+use Rattle.aip_top.specs.Written.{WritesOnDone}
 use Rattle.aip_top.proofs.Leases.{and_nothing, took_nothing}
 
 -- the text of a summary is what the workload gives

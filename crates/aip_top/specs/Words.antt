@@ -40,7 +40,7 @@ pub data Command : Type 0 where
   Make : (number : ℕ) → Command
 
 -- the number of a workload: it is below 2^32
-abbrev pub workload_number : List ℕ → Option ℕ
+unfoldable pub workload_number : List ℕ → Option ℕ
 workload_number word = number_of word >>= λ n. if nat_lt n (2 ^ 32) then Some n else None
 
 -- a made workload, where the word is the number of one

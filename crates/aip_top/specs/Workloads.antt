@@ -2,9 +2,8 @@
 use Rattle.std.specs.Prelude.{◌≡◌, ◌⊎◌, ℕ, ⊤, List, [], Result, Ok, Err}
 use Rattle.std.proofs.Common.{Vec, Global}
 use Rattle.aip_topo.specs.Reading.{topology_of}
-use Rattle.aip_rules.specs.Texts.{Ran, ran_over}
+use Rattle.aip_rules.specs.Texts.{ran_over}
 use Rattle.aip_make.specs.declared.ends.MadeEnd.{MadeEnd}
-use Rattle.aip_make.specs.declared.ends.MadeEnd.TheVariants as made_end
 use Rattle.aip_make.specs.declared.summary.Summary.{Summary}
 use Rattle.aip_make.specs.Ends.{answer_to}
 use Rattle.aip_make.specs.Schedules.{made_schedule}

@@ -75,6 +75,7 @@ pub enum Command<'a> {
 }
 
 // The number of a workload: it is below 2^32.
+#[tactic(auto, unfolding(crate::specs::Words::workload_number))]
 fn workload_number(word: &[u8]) -> Option<u32>
     ensures { result ≡ workload_number word.now }
 {

@@ -21,6 +21,7 @@ mod workload;
 mod writing;
 
 pub use aip_addr::Memory;
+pub use aip_make::{MadeEnd, Summary, made};
 pub use aip_records::RecordFault;
 pub use status::{LeaseFault, Status};
 pub use top::aip;
