@@ -3,3 +3,4 @@ pub mod Leases
 pub mod Promised
 pub mod RecordLists
 pub mod Recorded
+pub mod Summing

@@ -20,7 +20,7 @@ use Rattle.aip_top.proofs.Leases.{and_nothing, took_nothing}
 -- ## A topology that is read
 
 -- an answer that is expected or cut short, where nothing failed
-ends_or : (end expected : Status) (A B : Type 0) → ((kind_of end).cuts_short ≡ true) ⊎ (end ≡ expected) → (end ≡ status.ReadFault → A) → (end ≡ status.WriteFault → B) → (A → ⊥) → (B → ⊥) → IsOrMemory expected end
+pub ends_or : (end expected : Status) (A B : Type 0) → ((kind_of end).cuts_short ≡ true) ⊎ (end ≡ expected) → (end ≡ status.ReadFault → A) → (end ≡ status.WriteFault → B) → (A → ⊥) → (B → ⊥) → IsOrMemory expected end
 ends_or end expected A B (inr is) read put a b = inl is
 ends_or status.ReadFault expected A B (inl short) read put a b = absurd (a (read refl))
 ends_or status.WriteFault expected A B (inl short) read put a b = absurd (b (put refl))

@@ -1,5 +1,5 @@
 -- What each command answers, writes and leaves, where what it reads is told.
-use Rattle.std.specs.Prelude.{◌≡◌, ◌⊎◌, ℕ, true, List, Option, Ok, IfSome}
+use Rattle.std.specs.Prelude.{Result, ◌≡◌, ◌⊎◌, ℕ, true, List, Option, Ok, IfSome}
 use Rattle.std.specs.Option.{ForSome}
 use Rattle.lms_core.specs.Tree.{Key, identifier_of}
 use Rattle.lms_core.specs.Parameters.{levels_of}
@@ -16,6 +16,7 @@ use Rattle.aip_top.specs.Judged.{IsOrMemory}
 use Rattle.aip_top.specs.Written.{Writes, WritesOnDone}
 use Rattle.aip_top.specs.Addresses.{address_end, addresses_in}
 use Rattle.aip_top.specs.Listings.{listing_end, listing_text, registry_in}
+use Rattle.aip_top.specs.Workloads.{IsRefused, workload_end, workload_text}
 use Rattle.aip_top.specs.Recording.{HasWritten, IsFault, IsRefusedByFile, record_end}
 use Rattle.aip_top.specs.Leasing.{Formats, HasFresh, IsAlready, IsFormatted, KeepsOpen, LeaseSays, lease_end, lease_text}
 
@@ -70,3 +71,10 @@ pub record RecordDone {D : Type 0} (content : D → Option (List ℕ)) (may_leav
 pub record RecordOf {D : Type 0} (content : D → Option (List ℕ)) (may_leave : D → List ℕ → Type 0) (clock : D → ℕ) (during : D → ℕ → List ℕ → Type 0) (key : Key) (r : Record) (unread unwritten failed : Type 0) (end : Status) (disk after : D) (old new : Option (List ℕ)) : Type 0 where
   pub done : RecordDone content may_leave clock during key r end disk after old new
   pub complete : IfSome (content disk) (λ file. (unread → ⊥) → (unwritten → ⊥) → (failed → ⊥) → IsOrMemory (record_end (signed_by key r file)) end)
+
+-- `make` of a workload that gives a text, or is refused: it ends so, and writes that text, or nothing; it comes to its end
+-- where nothing fails, and to its refusal whatever fails.
+pub record MakeOf (given : Result (List ℕ) Status) (unwritten : Type 0) (end : Status) (old new : Option (List ℕ)) : Type 0 where
+  pub writes : Writes (workload_end given) (workload_text given) end old new
+  pub complete : (unwritten → ⊥) → IsOrMemory (workload_end given) end
+  pub refused : IsRefused given → IsOrMemory (workload_end given) end

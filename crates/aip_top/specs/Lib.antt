@@ -8,5 +8,6 @@ pub mod Listings
 pub mod Leasing
 pub mod Recording
 pub mod Draft
+pub mod Workloads
 pub mod Commands
 pub mod Wanted

@@ -1,6 +1,6 @@
 -- What a command names, seen by the bytes of its words.
 use Rattle.std.specs.Prelude.{string_bytes}
-use Rattle.aip_top.specs.Words.{Files, Leased, RecordFiles, Stated, Command, Run, Address, Lease, Registry, Record}
+use Rattle.aip_top.specs.Words.{Files, Leased, RecordFiles, Stated, Command, Run, Address, Lease, Registry, Record, Make}
 use Rattle.aip_top.specs.declared.command.RunWords.{RunWords}
 use Rattle.aip_top.specs.declared.command.LeaseWords.{LeaseWords}
 use Rattle.aip_top.specs.declared.command.RegistryWords.{RegistryWords}
@@ -31,3 +31,4 @@ named (command.Address topology) = Address (string_bytes topology.now)
 named (command.Lease words) = Lease (leased_of words)
 named (command.Registry words) = Registry (record_files_of words)
 named (command.Record words) = Record (stated_of words)
+named (command.Make number) = Make number

@@ -8,7 +8,9 @@ use Rattle.aip_sim.specs.declared.topologies.TopologyEnd.{TopologyEnd}
 use Rattle.aip_sim.specs.declared.topologies.TopologyEnd.TheVariants as topology_end
 use Rattle.aip_records.specs.declared.faults.RecordsEnd.{RecordsEnd}
 use Rattle.aip_records.specs.declared.faults.RecordsEnd.TheVariants as records_end
-use Rattle.aip_top.specs.Words.{Command, is_run, is_lease, is_registry, is_record, is_of_disk, is_no_command, is_any_command, is_never}
+use Rattle.aip_make.specs.declared.ends.MadeEnd.{MadeEnd}
+use Rattle.aip_make.specs.declared.ends.MadeEnd.TheVariants as made_end
+use Rattle.aip_top.specs.Words.{Command, is_run, is_lease, is_registry, is_record, is_of_disk, is_scheduled, is_of_files, is_no_command, is_any_command, is_never}
 use Rattle.aip_top.specs.declared.status.Status.{Status}
 use Rattle.aip_top.specs.declared.status.Status.TheVariants as status
 use Rattle.aip_top.specs.declared.status.LeaseFault.TheVariants as fault
@@ -51,6 +53,12 @@ status_without_records records_end.ReadFault = status.ReadFault
 status_without_records (records_end.Refused line f) = status.Record line f
 status_without_records records_end.Memory = status.Memory
 
+-- the status of a made workload that has no summary
+abbrev pub status_without_summary : MadeEnd → Status
+status_without_summary (made_end.Topology line f) = status.Topology line f
+status_without_summary (made_end.Schedule line f) = status.Schedule line f
+status_without_summary made_end.Memory = status.Memory
+
 -- What kind of answer a status is, whatever is told: the commands that it answers; those of them where bytes may have been
 -- written by then, where the disk may have been met, and where a core comes back; whether it refuses a command by what the
 -- topology says; and whether it is a fault of reading or writing or want of memory, which say nothing of the command's end.
@@ -66,10 +74,10 @@ pub record Kind : Type 0 where
 abbrev pub kind_of : Status → Kind
 kind_of status.Done = record { answers = is_any_command; writes = is_any_command; meets_disk = is_of_disk; gives_core = is_run; refuses = false; cuts_short = false }
 kind_of status.Usage = record { answers = is_no_command; writes = is_never; meets_disk = is_never; gives_core = is_never; refuses = false; cuts_short = false }
-kind_of status.ReadFault = record { answers = is_any_command; writes = is_run; meets_disk = is_never; gives_core = is_never; refuses = false; cuts_short = true }
+kind_of status.ReadFault = record { answers = is_of_files; writes = is_run; meets_disk = is_never; gives_core = is_never; refuses = false; cuts_short = true }
 kind_of status.WriteFault = record { answers = is_any_command; writes = is_any_command; meets_disk = is_of_disk; gives_core = is_never; refuses = false; cuts_short = true }
 kind_of (status.Topology line f) = record { answers = is_any_command; writes = is_never; meets_disk = is_never; gives_core = is_never; refuses = true; cuts_short = false }
-kind_of (status.Schedule line f) = record { answers = is_run; writes = is_run; meets_disk = is_never; gives_core = is_run; refuses = false; cuts_short = false }
+kind_of (status.Schedule line f) = record { answers = is_scheduled; writes = is_run; meets_disk = is_never; gives_core = is_run; refuses = false; cuts_short = false }
 kind_of status.DiskFault = record { answers = is_of_disk; writes = is_never; meets_disk = is_of_disk; gives_core = is_never; refuses = false; cuts_short = false }
 kind_of (status.Lease fault.Unknown) = record { answers = is_of_disk; writes = is_never; meets_disk = is_never; gives_core = is_never; refuses = true; cuts_short = false }
 kind_of (status.Lease fault.Keyless) = record { answers = is_of_disk; writes = is_never; meets_disk = is_never; gives_core = is_never; refuses = true; cuts_short = false }

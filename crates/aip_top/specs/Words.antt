@@ -1,5 +1,5 @@
 -- The words of a command line.
-use Rattle.std.specs.Prelude.{◌≡◌, ℕ, ◌^◌, nat_lt, ◌⊎◌, ⊤, Bool, true, false, List, [], ◌∷◌, codes, map, string_bytes, Option, Some, None, IfSome, if◌then◌else◌}
+use Rattle.std.specs.Prelude.{◌≡◌, ℕ, ◌^◌, nat_lt, ◌⊎◌, ⊤, Bool, true, false, List, [], ◌∷◌, codes, map, string_bytes, option_map, Option, Some, None, IfSome, if◌then◌else◌}
 use Rattle.std.proofs.Common.{String, Global}
 use Rattle.std.specs.Str.{bytes_eq}
 use Rattle.aip_addr.specs.Naming.{is_name}
@@ -29,18 +29,30 @@ pub record Stated : Type 0 where
   pub topology : List ℕ
   pub said : Statement
 
--- a command: `run TOPO SCHED`, `address TOPO`, `lease TOPO DOMAIN`, `registry TOPO RECORDS`, or `record TOPO DOMAIN` with
--- what the record is to say
+-- a command: `run TOPO SCHED`, `address TOPO`, `lease TOPO DOMAIN`, `registry TOPO RECORDS`, `record TOPO DOMAIN` with what
+-- the record is to say, or `make N`
 pub data Command : Type 0 where
   Run : Files → Command
   Address : (topology : List ℕ) → Command
   Lease : Leased → Command
   Registry : RecordFiles → Command
   Record : Stated → Command
+  Make : (number : ℕ) → Command
+
+-- the number of a workload: it is below 2^32
+unfoldable pub workload_number : List ℕ → Option ℕ
+workload_number word = number_of word >>= λ n. if nat_lt n (2 ^ 32) then Some n else None
+
+-- a made workload, where the word is the number of one
+abbrev pub make_of : List ℕ → Option Command
+make_of word = option_map (λ n. Make n) (workload_number word)
 
 -- the command of two words
 abbrev pub command_of_two : List ℕ → List ℕ → Option Command
-command_of_two word topology = if bytes_eq word (codes "address") then Some (Address topology) else None
+command_of_two word second =
+    if bytes_eq word (codes "address") then Some (Address second)
+    else if bytes_eq word (codes "make") then make_of second
+    else None
 
 -- a lease of a domain, where the word is a name
 abbrev pub lease_of : List ℕ → List ℕ → Option Command
@@ -100,13 +112,14 @@ command_of words = command_of_many words
 abbrev pub spelled : List (String Global) → Option Command
 spelled words = command_of (map string_bytes words)
 
--- the topology file that a command names
-abbrev pub topology_in : Command → List ℕ
-topology_in (Run files) = files.topology
-topology_in (Address topology) = topology
-topology_in (Lease leased) = leased.topology
-topology_in (Registry files) = files.topology
-topology_in (Record stated) = stated.topology
+-- the topology file that a command names, if it names one
+abbrev pub topology_in : Command → Option (List ℕ)
+topology_in (Run files) = Some files.topology
+topology_in (Address topology) = Some topology
+topology_in (Lease leased) = Some leased.topology
+topology_in (Registry files) = Some files.topology
+topology_in (Record stated) = Some stated.topology
+topology_in (Make number) = None
 
 -- what holds of the two files, where the command is a run
 abbrev pub OfRun : Option Command → (Files → Type 0) → Type 0
@@ -116,6 +129,7 @@ OfRun (Some (Address topology)) holds = ⊤
 OfRun (Some (Lease leased)) holds = ⊤
 OfRun (Some (Registry files)) holds = ⊤
 OfRun (Some (Record stated)) holds = ⊤
+OfRun (Some (Make number)) holds = ⊤
 
 -- what holds of the texts of the two files, where they are told
 abbrev pub OfTexts : (List ℕ → Option (List ℕ)) → Files → (List ℕ → List ℕ → Type 0) → Type 0
@@ -129,6 +143,7 @@ OfAddress (Some (Address topology)) holds = holds topology
 OfAddress (Some (Lease leased)) holds = ⊤
 OfAddress (Some (Registry files)) holds = ⊤
 OfAddress (Some (Record stated)) holds = ⊤
+OfAddress (Some (Make number)) holds = ⊤
 
 -- what holds of the file and the domain, where the command is a lease
 abbrev pub OfLease : Option Command → (Leased → Type 0) → Type 0
@@ -138,6 +153,7 @@ OfLease (Some (Address topology)) holds = ⊤
 OfLease (Some (Lease leased)) holds = holds leased
 OfLease (Some (Registry files)) holds = ⊤
 OfLease (Some (Record stated)) holds = ⊤
+OfLease (Some (Make number)) holds = ⊤
 
 -- what holds of the two files, where the list of records is asked for
 abbrev pub OfRegistry : Option Command → (RecordFiles → Type 0) → Type 0
@@ -147,6 +163,7 @@ OfRegistry (Some (Address topology)) holds = ⊤
 OfRegistry (Some (Lease leased)) holds = ⊤
 OfRegistry (Some (Registry files)) holds = holds files
 OfRegistry (Some (Record stated)) holds = ⊤
+OfRegistry (Some (Make number)) holds = ⊤
 
 -- what holds of the file and of what a record is to say, where the command is a record
 abbrev pub OfRecord : Option Command → (Stated → Type 0) → Type 0
@@ -156,6 +173,17 @@ OfRecord (Some (Address topology)) holds = ⊤
 OfRecord (Some (Lease leased)) holds = ⊤
 OfRecord (Some (Registry files)) holds = ⊤
 OfRecord (Some (Record stated)) holds = holds stated
+OfRecord (Some (Make number)) holds = ⊤
+
+-- what holds of the number of a workload, where the command makes one
+abbrev pub OfMake : Option Command → (ℕ → Type 0) → Type 0
+OfMake None holds = ⊤
+OfMake (Some (Run files)) holds = ⊤
+OfMake (Some (Address topology)) holds = ⊤
+OfMake (Some (Lease leased)) holds = ⊤
+OfMake (Some (Registry files)) holds = ⊤
+OfMake (Some (Record stated)) holds = ⊤
+OfMake (Some (Make number)) holds = holds number
 
 -- what holds of the texts of the topology and of the records, where they are told
 abbrev pub OfRecords : (List ℕ → Option (List ℕ)) → RecordFiles → (List ℕ → List ℕ → Type 0) → Type 0
@@ -169,6 +197,7 @@ is_run (Some (Address topology)) = false
 is_run (Some (Lease leased)) = false
 is_run (Some (Registry files)) = false
 is_run (Some (Record stated)) = false
+is_run (Some (Make number)) = false
 
 -- the words spell a lease
 abbrev pub is_lease : Option Command → Bool
@@ -178,6 +207,7 @@ is_lease (Some (Address topology)) = false
 is_lease (Some (Lease leased)) = true
 is_lease (Some (Registry files)) = false
 is_lease (Some (Record stated)) = false
+is_lease (Some (Make number)) = false
 
 -- the words ask for a signed record
 abbrev pub is_record : Option Command → Bool
@@ -187,6 +217,7 @@ is_record (Some (Address topology)) = false
 is_record (Some (Lease leased)) = false
 is_record (Some (Registry files)) = false
 is_record (Some (Record stated)) = true
+is_record (Some (Make number)) = false
 
 -- the words spell a lease or a record, which meet the disk
 abbrev pub is_of_disk : Option Command → Bool
@@ -196,6 +227,7 @@ is_of_disk (Some (Address topology)) = false
 is_of_disk (Some (Lease leased)) = true
 is_of_disk (Some (Registry files)) = false
 is_of_disk (Some (Record stated)) = true
+is_of_disk (Some (Make number)) = false
 
 -- the words ask for the list of records
 abbrev pub is_registry : Option Command → Bool
@@ -205,6 +237,27 @@ is_registry (Some (Address topology)) = false
 is_registry (Some (Lease leased)) = false
 is_registry (Some (Registry files)) = true
 is_registry (Some (Record stated)) = false
+is_registry (Some (Make number)) = false
+
+-- the words spell a run or a made workload, which take the lines of a schedule
+abbrev pub is_scheduled : Option Command → Bool
+is_scheduled None = false
+is_scheduled (Some (Run files)) = true
+is_scheduled (Some (Address topology)) = false
+is_scheduled (Some (Lease leased)) = false
+is_scheduled (Some (Registry files)) = false
+is_scheduled (Some (Record stated)) = false
+is_scheduled (Some (Make number)) = true
+
+-- the words spell a command that names files: each does but that of a made workload
+abbrev pub is_of_files : Option Command → Bool
+is_of_files None = false
+is_of_files (Some (Run files)) = true
+is_of_files (Some (Address topology)) = true
+is_of_files (Some (Lease leased)) = true
+is_of_files (Some (Registry files)) = true
+is_of_files (Some (Record stated)) = true
+is_of_files (Some (Make number)) = false
 
 -- the words spell a command
 abbrev pub is_any_command : Option Command → Bool
@@ -228,3 +281,4 @@ IsNamed (Some (Address topology)) name = name ≡ topology
 IsNamed (Some (Lease leased)) name = name ≡ leased.topology
 IsNamed (Some (Registry files)) name = (name ≡ files.topology) ⊎ (name ≡ files.records)
 IsNamed (Some (Record stated)) name = name ≡ stated.topology
+IsNamed (Some (Make number)) name = ⊥

@@ -1,5 +1,5 @@
 ghost use Rattle.std.specs.Prelude.{◌≡◌, map, option_map, string_bytes};
-ghost use Rattle.aip_top.specs.Words.{command_of, command_of_many, command_of_seven, command_of_three, command_of_two, kind_of_word, lease_of, statement_of, time_of};
+ghost use Rattle.aip_top.specs.Words.{command_of, command_of_many, command_of_seven, command_of_three, command_of_two, kind_of_word, lease_of, make_of, statement_of, time_of, workload_number};
 ghost use Rattle.aip_top.specs.Named.{named};
 
 use aip_addr::Name;
@@ -70,13 +70,39 @@ pub enum Command<'a> {
     Registry(RegistryWords<'a>),
     /// `record TOPO DOMAIN peer DOMAIN NUMBER UNTIL`, or `bind HOST` in place of `peer DOMAIN`
     Record(RecordWords<'a>),
+    /// `make N`, with the number of the workload
+    Make(u32),
 }
 
-fn command_of_two<'a>(word: &'a String, topology: &'a String) -> Option<Command<'a>>
-    ensures { option_map named result ≡ command_of_two (string_bytes word.now) (string_bytes topology.now) }
+// The number of a workload: it is below 2^32.
+#[tactic(auto, unfolding(crate::specs::Words::workload_number))]
+fn workload_number(word: &[u8]) -> Option<u32>
+    ensures { result ≡ workload_number word.now }
+{
+    let number = read_number(word)?;
+    if number < 1 << 32 {
+        Some(number as u32)
+    } else {
+        None
+    }
+}
+
+fn make_of<'a>(word: &'a String) -> Option<Command<'a>>
+    ensures { option_map named result ≡ make_of (string_bytes word.now) }
+{
+    match workload_number(word.as_bytes()) {
+        Some(number) => Some(Command::Make(number)),
+        None => None,
+    }
+}
+
+fn command_of_two<'a>(word: &'a String, second: &'a String) -> Option<Command<'a>>
+    ensures { option_map named result ≡ command_of_two (string_bytes word.now) (string_bytes second.now) }
 {
     if word.as_str() == "address" {
-        Some(Command::Address(topology))
+        Some(Command::Address(second))
+    } else if word.as_str() == "make" {
+        make_of(second)
     } else {
         None
     }

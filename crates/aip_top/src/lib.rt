@@ -17,9 +17,11 @@ mod run;
 mod status;
 mod top;
 mod topology;
+mod workload;
 mod writing;
 
 pub use aip_addr::Memory;
+pub use aip_make::{MadeEnd, Summary, made};
 pub use aip_records::RecordFault;
 pub use status::{LeaseFault, Status};
 pub use top::aip;

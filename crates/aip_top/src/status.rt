@@ -2,6 +2,7 @@ ghost use Rattle.std.specs.Prelude.{◌≡◌};
 ghost use Rattle.aip_top.specs.Statuses.{exit_code_of};
 
 use aip_addr::Memory;
+use aip_make::MadeEnd;
 use aip_records::{RecordFault, RecordsEnd};
 use aip_rules::StepFault;
 use aip_sim::{RunEnd, TopologyEnd};
@@ -61,7 +62,8 @@ pub enum Status {
         /// The first fault that applies to it.
         fault: TopoFault,
     },
-    /// A line of the schedule is refused. The whole text was taken, with the refusal line.
+    /// A line of the schedule is refused. The whole text was taken, with the refusal line; of a made workload nothing was
+    /// written.
     Schedule {
         /// The number of the first refused line, from 1.
         line: u32,
@@ -179,6 +181,21 @@ impl From<RunEnd> for Status {
             RunEnd::Topology { line, fault } => Status::Topology { line, fault },
             RunEnd::Schedule { line, fault } => Status::Schedule { line, fault },
             RunEnd::Memory => Status::Memory,
+        }
+    }
+}
+
+impl From<MadeEnd> for Status {
+    ghost use Rattle.std.specs.Prelude.{◌≡◌};
+    ghost use Rattle.aip_top.specs.Statuses.{status_without_summary};
+
+    ghost from_gives = { λ end status. status ≡ status_without_summary end };
+
+    fn from(end: MadeEnd) -> Self {
+        match end {
+            MadeEnd::Topology { line, fault } => Status::Topology { line, fault },
+            MadeEnd::Schedule { line, fault } => Status::Schedule { line, fault },
+            MadeEnd::Memory => Status::Memory,
         }
     }
 }

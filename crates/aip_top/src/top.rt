@@ -3,12 +3,13 @@ ghost use Rattle.std.specs.Prelude.{◌≡◌, ◌↔◌, ◌⊎◌, None, true,
 ghost use Rattle.aip_io.specs.Causes.{Rose};
 ghost use Rattle.aip_rules.specs.Promises.{ForwardsAreJustified, GuardsAreSilent, HoldsOfRun, NoLeafSignsTwice};
 ghost use Rattle.aip_sim.specs.Causes.{HasCause, ReadsOnly};
-ghost use Rattle.aip_top.specs.Commands.{AddressOf, KeepsLeases, LeaseOf, RecordOf, RegistryOf, RunOf};
+ghost use Rattle.aip_top.specs.Commands.{AddressOf, KeepsLeases, LeaseOf, MakeOf, RecordOf, RegistryOf, RunOf};
 ghost use Rattle.aip_top.specs.Judged.{end_by, Judges};
 ghost use Rattle.aip_top.specs.Leasing.{OfItsKey};
 ghost use Rattle.aip_top.specs.Recording.{KeepsRecords, OfItsDraft};
 ghost use Rattle.aip_top.specs.Statuses.{kind_of};
-ghost use Rattle.aip_top.specs.Words.{spelled, topology_in, IsNamed, OfAddress, OfLease, OfRecord, OfRecords, OfRegistry, OfRun, OfTexts};
+ghost use Rattle.aip_top.specs.Workloads.{workload};
+ghost use Rattle.aip_top.specs.Words.{spelled, topology_in, IsNamed, OfAddress, OfLease, OfMake, OfRecord, OfRecords, OfRegistry, OfRun, OfTexts};
 
 use crate::address::address;
 use crate::command::{Command, command_of};
@@ -17,6 +18,7 @@ use crate::lease::lease;
 use crate::registry::registry;
 use crate::run::run;
 use crate::status::Status;
+use crate::workload::make;
 use aip_core::Core;
 use aip_io::{Shelf, Sink};
 use lease_disk::Disk;
@@ -30,7 +32,8 @@ use std::alloc::Global;
 /// the lease file of the domain's key, unless it is a lease file already, and writes the key's identifier and height.
 /// `record TOPO DOMAIN peer DOMAIN NUMBER UNTIL` and `record TOPO DOMAIN bind HOST NUMBER UNTIL` sign a record with the next
 /// leaf of the domain's lease file, once it is gone there, and write it as a line of hex. `registry TOPO RECORDS` writes the
-/// list of the newest of the records, unless a line of their file is refused.
+/// list of the newest of the records, unless a line of their file is refused. `make N` runs workload number N and writes the
+/// summary of its trace.
 #[tactic(auto, using(crate::proofs::Promised::justified, crate::proofs::Promised::silent, crate::proofs::Promised::leaf_once))]
 pub fn aip<S: Shelf, K: Sink, D: Disk>(
     alloc: Global,
@@ -56,10 +59,9 @@ pub fn aip<S: Shelf, K: Sink, D: Disk>(
     ensures disk_fault { HasCause (result.0 ≡ Status.DiskFault) (D.faults disk) (D.faults result.1) }
 
     // A topology text that by itself ends the command ends it so, but for want of memory and a counted fault of reading it.
-    ensures topology { IfSome (spelled words.now) (λ command. IfSome (S.text shelf.old (topology_in command)) (λ told.
-        Judges (end_by command told)
-        (Rose (S.faults shelf.old (topology_in command)) (S.faults shelf.new (topology_in command)))
-        ((out.new ≡ out.old) × (result.1 ≡ disk)) result.0)) }
+    ensures topology { IfSome (spelled words.now) (λ command. IfSome (topology_in command) (λ name.
+        IfSome (S.text shelf.old name) (λ told. Judges (end_by command told)
+        (Rose (S.faults shelf.old name) (S.faults shelf.new name)) ((out.new ≡ out.old) × (result.1 ≡ disk)) result.0))) }
 
     // Where what a command reads is told: how it ends, what it writes, and that it comes to its end where nothing fails.
     ensures run { OfRun (spelled words.now) (λ files. OfTexts (S.text shelf.old) files (λ topology schedule.
@@ -87,6 +89,8 @@ pub fn aip<S: Shelf, K: Sink, D: Disk>(
         (Rose (K.faults out.old) (K.faults out.new)) (Rose (D.faults disk) (D.faults result.1))
         result.0 disk result.1 (K.taken out.old) (K.taken out.new))) }
 
+    ensures make { OfMake (spelled words.now) (λ number. MakeOf (workload number)
+        (Rose (K.faults out.old) (K.faults out.new)) result.0 (K.taken out.old) (K.taken out.new)) }
     ensures record_of { OfRecord (spelled words.now) (λ stated. OfItsDraft (S.text shelf.old) stated (λ key r.
         RecordOf D.now D.may_leave D.clock D.during key r
         (Rose (S.faults shelf.old stated.topology) (S.faults shelf.new stated.topology))
@@ -127,6 +131,7 @@ pub fn aip<S: Shelf, K: Sink, D: Disk>(
             let (status, disk) = issue(alloc, shelf, topology, &words.said, out, disk);
             (status, disk, None)
         }
+        Some(Command::Make(number)) => (make(alloc, number, out), disk, None),
         None => (Status::Usage, disk, None),
     }
 }

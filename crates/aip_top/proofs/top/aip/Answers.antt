@@ -1,7 +1,7 @@
-use Rattle.aip_top.specs.Words.{spelled}
-use Rattle.std.proofs.Common.{◌≡◌, sym}
+use Rattle.aip_top.specs.Words.{spelled, Record}
+use Rattle.std.proofs.Common.{refl, sym}
 use Rattle.aip_top.specs.Named.{stated_of}
-use Rattle.aip_top.proofs.Promised.{justified, silent, leaf_once, record_judged}
+use Rattle.aip_top.proofs.Promised.{justified, silent, leaf_once, judged}
 use Rattle.aip_top.proofs.top.aip.Goals as goal
 
 pub returns-in-Some-Run-clause-justified : goal.returns-in-Some-Run-clause-justified
@@ -15,7 +15,7 @@ returns-in-Some-Run-clause-leaf_once g c = leaf_once (g.S.Shelf.text c.args.shel
 
 pub returns-in-Some-Record-clause-topology : goal.returns-in-Some-Record-clause-topology
 returns-in-Some-Record-clause-topology g c =
-    let issued = c.issue-status in
-    record_judged (spelled c.args.words.now) (stated_of c.in-Some-Record.words) c.as_str-topology-in-Some-Record.result.now (g.S.Shelf.text c.args.shelf.now)
-    (g.S.Shelf.faults c.args.shelf.now) (g.S.Shelf.faults issued.new.shelf) ((issued.new.out ≡ c.args.out.now) × (issued.result.1 ≡ c.args.disk)) issued.result.0
-    c.as_str-topology-in-Some-Record.ensures.value (sym (rw c.in-Some-Record.field-0-is at c.in-Some-Record.ensures)) issued.ensures.judged
+    let ended = c.issue-status in
+    judged (spelled c.args.words.now) (Record (stated_of c.in-Some-Record.words)) c.as_str-topology-in-Some-Record.result.now _ (g.S.Shelf.text c.args.shelf.now)
+    (g.S.Shelf.faults c.args.shelf.now) (g.S.Shelf.faults ended.new.shelf) _ _
+    c.as_str-topology-in-Some-Record.ensures.value refl (sym (rw c.in-Some-Record.field-0-is at c.in-Some-Record.ensures)) ended.ensures.judged

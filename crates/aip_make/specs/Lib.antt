@@ -1,0 +1,5 @@
+pub mod Workload
+pub mod Summaries
+pub mod Ends
+pub mod Making
+pub mod Schedules
