@@ -144,7 +144,7 @@ fn a_lease_after_a_fault_of_the_disk(rt: HostRuntime) -> Result<(), Fail> {
         let already = Status::Lease(LeaseFault::Already { id, height: 5 });
         assert_eq!(rt; status, if open { already } else { Status::Done });
         assert_eq!(rt; disk.bytes().len(), 50);
-        opened += u64::from(open);
+        opened = opened.saturating_add(u64::from(open));
     }
     // Only a failed sync of the gate leaves it open.
     assert_eq!(rt; opened, 1);
