@@ -28,12 +28,15 @@ fn lease_path<R: AllocGlobal>(rt: &R, words: &[String]) -> Result<String, AllocE
     }
 }
 
-// The word for why a lease is refused.
+// The words for why a lease or a record is refused.
 fn word_of(fault: LeaseFault) -> &'static str {
     match fault {
         LeaseFault::Unknown => "unknown",
         LeaseFault::Keyless => "keyless",
         LeaseFault::Already { .. } => "already",
+        LeaseFault::Unformatted { .. } => "unformatted",
+        LeaseFault::OtherKey { .. } => "other key",
+        LeaseFault::Dry { .. } => "dry",
     }
 }
 

@@ -17,7 +17,7 @@ pub(crate) const SCHEDULE: &[u8] = b"send a b 7 6869\ndeliver 0\ndeliver 1\n";
 pub(crate) const TRACE: &[u8] =
     b"> send a b 7 6869\n< put 0 r/0 0100400000000007011111111111111111111111111111111111110001bbbbbbbbbbbbbbbbbbbbbbbbbbbbbbbbbbbb00011111111111111111111111111111111111110001aaaaaaaaaaaaaaaaaaaaaaaaaaaaaaaaaaaa0000026869\n> deliver 0\n< forward r 0 1 open\n< put 1 b 01003f0000000007011111111111111111111111111111111111110001bbbbbbbbbbbbbbbbbbbbbbbbbbbbbbbbbbbb00011111111111111111111111111111111111110001aaaaaaaaaaaaaaaaaaaaaaaaaaaaaaaaaaaa0000026869\n> deliver 1\n< got b 7\n";
 
-fn file(alloc: Global, name: &str, bytes: &[u8]) -> Result<File, AllocError> {
+pub(crate) fn file(alloc: Global, name: &str, bytes: &[u8]) -> Result<File, AllocError> {
     Ok(File {
         name: String::from_str(alloc, name)?,
         bytes: Vec::from_slice(alloc, bytes)?,
@@ -175,7 +175,7 @@ fn absent_files_and_other_words(rt: HostRuntime) -> Result<(), Fail> {
 }
 
 // A domain with a key, and one without.
-const KEYED: &[u8] =
+pub(crate) const KEYED: &[u8] =
     b"domain d seed W4 H5 3131313131313131313131313131313131313131313131313131313131313131\ndomain e id 0111111111111111111111111111111111111100\n";
 
 // The line of a lease for the first, and the file, as an independent implementation gives them.

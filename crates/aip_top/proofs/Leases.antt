@@ -76,6 +76,9 @@ ends_told file status.Usage A B C says late write disk a b c = absurd says
 ends_told file (status.Topology line f) A B C says late write disk a b c = absurd says
 ends_told file (status.Schedule line f) A B C says late write disk a b c = absurd says
 ends_told file (status.Record line f) A B C says late write disk a b c = absurd says
+ends_told file (status.Lease (fault.Unformatted size gate)) A B C says late write disk a b c = absurd says
+ends_told file (status.Lease (fault.OtherKey id height)) A B C says late write disk a b c = absurd says
+ends_told file (status.Lease (fault.Dry height)) A B C says late write disk a b c = absurd says
 
 -- the same over every disk
 lease_ends : (content : Option (List ℕ)) (end : Status) (A B C : Type 0) → LeaseSays content end → (IsBeforeDisk end → ⊥) → (end ≡ status.WriteFault → B)

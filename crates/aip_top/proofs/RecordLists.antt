@@ -37,6 +37,9 @@ ends_or (status.Lease f) expected A B (inl short) read put a b = absurd (kept f 
     kept fault.Unknown short = cc
     kept fault.Keyless short = cc
     kept (fault.Already id height) short = cc
+    kept (fault.Unformatted size gate) short = cc
+    kept (fault.OtherKey id height) short = cc
+    kept (fault.Dry height) short = cc
 
 -- what was listed over a topology that was read
 pub listed : (t s mid : Option (List ℕ)) (topo : Topology) (unread unwritten : Type 0) (end : Status) (old new : Option (List ℕ)) → mid ≡ s → IfSome t (λ told. topology_of told ≡ Ok topo)

@@ -87,6 +87,9 @@ LeaseSays told (status.Topology line f) = ⊥
 LeaseSays told (status.Schedule line f) = ⊥
 LeaseSays told (status.Lease fault.Unknown) = ⊥
 LeaseSays told (status.Lease fault.Keyless) = ⊥
+LeaseSays told (status.Lease (fault.Unformatted size gate)) = ⊥
+LeaseSays told (status.Lease (fault.OtherKey id height)) = ⊥
+LeaseSays told (status.Lease (fault.Dry height)) = ⊥
 LeaseSays told (status.Record line f) = ⊥
 
 -- the status comes before a lease touches the disk: a refusal, a fault of reading, or want of memory
@@ -101,6 +104,9 @@ IsBeforeDisk status.Done = ⊥
 IsBeforeDisk status.Usage = ⊥
 IsBeforeDisk status.WriteFault = ⊥
 IsBeforeDisk (status.Schedule line f) = ⊥
+IsBeforeDisk (status.Lease (fault.Unformatted size gate)) = ⊥
+IsBeforeDisk (status.Lease (fault.OtherKey id height)) = ⊥
+IsBeforeDisk (status.Lease (fault.Dry height)) = ⊥
 IsBeforeDisk (status.Record line f) = ⊥
 IsBeforeDisk status.DiskFault = ⊥
 

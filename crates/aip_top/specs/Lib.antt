@@ -6,5 +6,7 @@ pub mod Written
 pub mod Addresses
 pub mod Listings
 pub mod Leasing
+pub mod Recording
+pub mod Draft
 pub mod Commands
 pub mod Wanted

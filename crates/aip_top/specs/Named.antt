@@ -1,9 +1,10 @@
 -- What a command names, seen by the bytes of its words.
 use Rattle.std.specs.Prelude.{string_bytes}
-use Rattle.aip_top.specs.Words.{Files, Leased, RecordFiles, Command, Run, Address, Lease, Registry}
+use Rattle.aip_top.specs.Words.{Files, Leased, RecordFiles, Stated, Command, Run, Address, Lease, Registry, Record}
 use Rattle.aip_top.specs.declared.command.RunWords.{RunWords}
 use Rattle.aip_top.specs.declared.command.LeaseWords.{LeaseWords}
 use Rattle.aip_top.specs.declared.command.RegistryWords.{RegistryWords}
+use Rattle.aip_top.specs.declared.command.RecordWords.{RecordWords}
 use Rattle.aip_top.specs.declared.command.Command as words
 use Rattle.aip_top.specs.declared.command.Command.TheVariants as command
 
@@ -19,9 +20,14 @@ leased_of words = record { topology = string_bytes words.topology.now; domain = 
 abbrev pub record_files_of : RegistryWords → RecordFiles
 record_files_of words = record { topology = string_bytes words.topology.now; records = string_bytes words.records.now }
 
+-- the file that a record names, and what it is to say
+abbrev pub stated_of : RecordWords → Stated
+stated_of words = record { topology = string_bytes words.topology.now; said = words.said }
+
 -- the command that was read
 abbrev pub named : words.Command → Command
 named (command.Run words) = Run (files_of words)
 named (command.Address topology) = Address (string_bytes topology.now)
 named (command.Lease words) = Lease (leased_of words)
 named (command.Registry words) = Registry (record_files_of words)
+named (command.Record words) = Record (stated_of words)

@@ -8,7 +8,7 @@ use Rattle.aip_sim.specs.declared.topologies.TopologyEnd.{TopologyEnd}
 use Rattle.aip_sim.specs.declared.topologies.TopologyEnd.TheVariants as topology_end
 use Rattle.aip_records.specs.declared.faults.RecordsEnd.{RecordsEnd}
 use Rattle.aip_records.specs.declared.faults.RecordsEnd.TheVariants as records_end
-use Rattle.aip_top.specs.Words.{Command, is_run, is_lease, is_registry, is_no_command, is_any_command, is_never}
+use Rattle.aip_top.specs.Words.{Command, is_run, is_lease, is_registry, is_record, is_of_disk, is_no_command, is_any_command, is_never}
 use Rattle.aip_top.specs.declared.status.Status.{Status}
 use Rattle.aip_top.specs.declared.status.Status.TheVariants as status
 use Rattle.aip_top.specs.declared.status.LeaseFault.TheVariants as fault
@@ -64,15 +64,18 @@ pub record Kind : Type 0 where
 
 -- the kind of each status
 abbrev pub kind_of : Status → Kind
-kind_of status.Done = record { answers = is_any_command; writes = is_any_command; meets_disk = is_lease; gives_core = is_run; refuses = false; cuts_short = false }
+kind_of status.Done = record { answers = is_any_command; writes = is_any_command; meets_disk = is_of_disk; gives_core = is_run; refuses = false; cuts_short = false }
 kind_of status.Usage = record { answers = is_no_command; writes = is_never; meets_disk = is_never; gives_core = is_never; refuses = false; cuts_short = false }
 kind_of status.ReadFault = record { answers = is_any_command; writes = is_run; meets_disk = is_never; gives_core = is_never; refuses = false; cuts_short = true }
-kind_of status.WriteFault = record { answers = is_any_command; writes = is_any_command; meets_disk = is_lease; gives_core = is_never; refuses = false; cuts_short = true }
+kind_of status.WriteFault = record { answers = is_any_command; writes = is_any_command; meets_disk = is_of_disk; gives_core = is_never; refuses = false; cuts_short = true }
 kind_of (status.Topology line f) = record { answers = is_any_command; writes = is_never; meets_disk = is_never; gives_core = is_never; refuses = true; cuts_short = false }
 kind_of (status.Schedule line f) = record { answers = is_run; writes = is_run; meets_disk = is_never; gives_core = is_run; refuses = false; cuts_short = false }
-kind_of status.DiskFault = record { answers = is_lease; writes = is_never; meets_disk = is_lease; gives_core = is_never; refuses = false; cuts_short = false }
-kind_of (status.Lease fault.Unknown) = record { answers = is_lease; writes = is_never; meets_disk = is_never; gives_core = is_never; refuses = true; cuts_short = false }
-kind_of (status.Lease fault.Keyless) = record { answers = is_lease; writes = is_never; meets_disk = is_never; gives_core = is_never; refuses = true; cuts_short = false }
+kind_of status.DiskFault = record { answers = is_of_disk; writes = is_never; meets_disk = is_of_disk; gives_core = is_never; refuses = false; cuts_short = false }
+kind_of (status.Lease fault.Unknown) = record { answers = is_of_disk; writes = is_never; meets_disk = is_never; gives_core = is_never; refuses = true; cuts_short = false }
+kind_of (status.Lease fault.Keyless) = record { answers = is_of_disk; writes = is_never; meets_disk = is_never; gives_core = is_never; refuses = true; cuts_short = false }
 kind_of (status.Lease (fault.Already id height)) = record { answers = is_lease; writes = is_never; meets_disk = is_lease; gives_core = is_never; refuses = false; cuts_short = false }
+kind_of (status.Lease (fault.Unformatted size gate)) = record { answers = is_record; writes = is_never; meets_disk = is_record; gives_core = is_never; refuses = false; cuts_short = false }
+kind_of (status.Lease (fault.OtherKey id height)) = record { answers = is_record; writes = is_never; meets_disk = is_record; gives_core = is_never; refuses = false; cuts_short = false }
+kind_of (status.Lease (fault.Dry height)) = record { answers = is_record; writes = is_never; meets_disk = is_record; gives_core = is_never; refuses = false; cuts_short = false }
 kind_of (status.Record line f) = record { answers = is_registry; writes = is_never; meets_disk = is_never; gives_core = is_never; refuses = false; cuts_short = false }
-kind_of status.Memory = record { answers = is_any_command; writes = is_run; meets_disk = is_never; gives_core = is_never; refuses = false; cuts_short = true }
+kind_of status.Memory = record { answers = is_any_command; writes = is_run; meets_disk = is_record; gives_core = is_never; refuses = false; cuts_short = true }

@@ -1,8 +1,13 @@
 -- The words of a command line.
-use Rattle.std.specs.Prelude.{◌≡◌, ℕ, ◌⊎◌, ⊤, Bool, true, false, List, [], ◌∷◌, codes, map, string_bytes, Option, Some, None, IfSome, if◌then◌else◌}
+use Rattle.std.specs.Prelude.{◌≡◌, ℕ, ◌^◌, nat_lt, ◌⊎◌, ⊤, Bool, true, false, List, [], ◌∷◌, codes, map, string_bytes, Option, Some, None, IfSome, if◌then◌else◌}
 use Rattle.std.proofs.Common.{String, Global}
 use Rattle.std.specs.Str.{bytes_eq}
 use Rattle.aip_addr.specs.Naming.{is_name}
+use Rattle.aip_text.specs.Fields.{◌>>=◌, name_of}
+use Rattle.aip_text.specs.Words.{number_of}
+use Rattle.aip_registry.specs.declared.records.RecordKind.{RecordKind}
+use Rattle.aip_registry.specs.declared.records.RecordKind.TheVariants.{Peer, Bind}
+use Rattle.aip_top.specs.declared.command.Statement.{Statement}
 
 -- the two files that a run names
 pub record Files : Type 0 where
@@ -19,12 +24,19 @@ pub record RecordFiles : Type 0 where
   pub topology : List ℕ
   pub records : List ℕ
 
--- a command: `run TOPO SCHED`, `address TOPO`, `lease TOPO DOMAIN` or `registry TOPO RECORDS`
+-- the file that a record names, and what it is to say
+pub record Stated : Type 0 where
+  pub topology : List ℕ
+  pub said : Statement
+
+-- a command: `run TOPO SCHED`, `address TOPO`, `lease TOPO DOMAIN`, `registry TOPO RECORDS`, or `record TOPO DOMAIN` with
+-- what the record is to say
 pub data Command : Type 0 where
   Run : Files → Command
   Address : (topology : List ℕ) → Command
   Lease : Leased → Command
   Registry : RecordFiles → Command
+  Record : Stated → Command
 
 -- the command of two words
 abbrev pub command_of_two : List ℕ → List ℕ → Option Command
@@ -42,13 +54,47 @@ command_of_three word topology third =
     else if bytes_eq word (codes "registry") then Some (Registry (record { topology = topology; records = third }))
     else None
 
+-- the kind of record that a word names
+abbrev pub kind_of_word : List ℕ → Option RecordKind
+kind_of_word word =
+    if bytes_eq word (codes "peer") then Some Peer
+    else if bytes_eq word (codes "bind") then Some Bind
+    else None
+
+-- a number below 2^48
+abbrev pub time_of : List ℕ → Option ℕ
+time_of word = number_of word >>= λ n. if nat_lt n (2 ^ 48) then Some n else None
+
+-- what a record is to say: who signs it, its kind, what it is about, its number, and until when it is in force
+abbrev pub statement_of : List ℕ → List ℕ → List ℕ → List ℕ → List ℕ → Option Statement
+statement_of domain kind other number until = do
+  d ← name_of domain
+  k ← kind_of_word kind
+  o ← name_of other
+  n ← time_of number
+  u ← time_of until
+  Some (record { domain = d; kind = k; other = o; number = n; until = u })
+
+-- a record over a topology file
+abbrev pub stated_over : List ℕ → Option Statement → Option Command
+stated_over topology None = None
+stated_over topology (Some said) = Some (Record (record { topology = topology; said = said }))
+
+-- the command of seven words
+abbrev pub command_of_seven : List ℕ → List ℕ → List ℕ → List ℕ → List ℕ → List ℕ → List ℕ → Option Command
+command_of_seven word topology domain kind other number until =
+    if bytes_eq word (codes "record") then stated_over topology (statement_of domain kind other number until) else None
+
+-- the command of more than three words
+abbrev pub command_of_many : List (List ℕ) → Option Command
+command_of_many (word ∷ topology ∷ domain ∷ kind ∷ other ∷ number ∷ until ∷ []) = command_of_seven word topology domain kind other number until
+command_of_many words = None
+
 -- the command that the words spell, if they spell one
 abbrev pub command_of : List (List ℕ) → Option Command
-command_of [] = None
-command_of (word ∷ []) = None
 command_of (word ∷ topology ∷ []) = command_of_two word topology
 command_of (word ∷ topology ∷ third ∷ []) = command_of_three word topology third
-command_of (word ∷ topology ∷ third ∷ more ∷ words) = None
+command_of words = command_of_many words
 
 -- the command that the words of a command line spell
 abbrev pub spelled : List (String Global) → Option Command
@@ -60,6 +106,7 @@ topology_in (Run files) = files.topology
 topology_in (Address topology) = topology
 topology_in (Lease leased) = leased.topology
 topology_in (Registry files) = files.topology
+topology_in (Record stated) = stated.topology
 
 -- what holds of the two files, where the command is a run
 abbrev pub OfRun : Option Command → (Files → Type 0) → Type 0
@@ -68,6 +115,7 @@ OfRun (Some (Run files)) holds = holds files
 OfRun (Some (Address topology)) holds = ⊤
 OfRun (Some (Lease leased)) holds = ⊤
 OfRun (Some (Registry files)) holds = ⊤
+OfRun (Some (Record stated)) holds = ⊤
 
 -- what holds of the texts of the two files, where they are told
 abbrev pub OfTexts : (List ℕ → Option (List ℕ)) → Files → (List ℕ → List ℕ → Type 0) → Type 0
@@ -80,6 +128,7 @@ OfAddress (Some (Run files)) holds = ⊤
 OfAddress (Some (Address topology)) holds = holds topology
 OfAddress (Some (Lease leased)) holds = ⊤
 OfAddress (Some (Registry files)) holds = ⊤
+OfAddress (Some (Record stated)) holds = ⊤
 
 -- what holds of the file and the domain, where the command is a lease
 abbrev pub OfLease : Option Command → (Leased → Type 0) → Type 0
@@ -88,6 +137,7 @@ OfLease (Some (Run files)) holds = ⊤
 OfLease (Some (Address topology)) holds = ⊤
 OfLease (Some (Lease leased)) holds = holds leased
 OfLease (Some (Registry files)) holds = ⊤
+OfLease (Some (Record stated)) holds = ⊤
 
 -- what holds of the two files, where the list of records is asked for
 abbrev pub OfRegistry : Option Command → (RecordFiles → Type 0) → Type 0
@@ -96,6 +146,16 @@ OfRegistry (Some (Run files)) holds = ⊤
 OfRegistry (Some (Address topology)) holds = ⊤
 OfRegistry (Some (Lease leased)) holds = ⊤
 OfRegistry (Some (Registry files)) holds = holds files
+OfRegistry (Some (Record stated)) holds = ⊤
+
+-- what holds of the file and of what a record is to say, where the command is a record
+abbrev pub OfRecord : Option Command → (Stated → Type 0) → Type 0
+OfRecord None holds = ⊤
+OfRecord (Some (Run files)) holds = ⊤
+OfRecord (Some (Address topology)) holds = ⊤
+OfRecord (Some (Lease leased)) holds = ⊤
+OfRecord (Some (Registry files)) holds = ⊤
+OfRecord (Some (Record stated)) holds = holds stated
 
 -- what holds of the texts of the topology and of the records, where they are told
 abbrev pub OfRecords : (List ℕ → Option (List ℕ)) → RecordFiles → (List ℕ → List ℕ → Type 0) → Type 0
@@ -108,6 +168,7 @@ is_run (Some (Run files)) = true
 is_run (Some (Address topology)) = false
 is_run (Some (Lease leased)) = false
 is_run (Some (Registry files)) = false
+is_run (Some (Record stated)) = false
 
 -- the words spell a lease
 abbrev pub is_lease : Option Command → Bool
@@ -116,6 +177,25 @@ is_lease (Some (Run files)) = false
 is_lease (Some (Address topology)) = false
 is_lease (Some (Lease leased)) = true
 is_lease (Some (Registry files)) = false
+is_lease (Some (Record stated)) = false
+
+-- the words ask for a signed record
+abbrev pub is_record : Option Command → Bool
+is_record None = false
+is_record (Some (Run files)) = false
+is_record (Some (Address topology)) = false
+is_record (Some (Lease leased)) = false
+is_record (Some (Registry files)) = false
+is_record (Some (Record stated)) = true
+
+-- the words spell a lease or a record, which meet the disk
+abbrev pub is_of_disk : Option Command → Bool
+is_of_disk None = false
+is_of_disk (Some (Run files)) = false
+is_of_disk (Some (Address topology)) = false
+is_of_disk (Some (Lease leased)) = true
+is_of_disk (Some (Registry files)) = false
+is_of_disk (Some (Record stated)) = true
 
 -- the words ask for the list of records
 abbrev pub is_registry : Option Command → Bool
@@ -124,6 +204,7 @@ is_registry (Some (Run files)) = false
 is_registry (Some (Address topology)) = false
 is_registry (Some (Lease leased)) = false
 is_registry (Some (Registry files)) = true
+is_registry (Some (Record stated)) = false
 
 -- the words spell a command
 abbrev pub is_any_command : Option Command → Bool
@@ -146,3 +227,4 @@ IsNamed (Some (Run files)) name = (name ≡ files.topology) ⊎ (name ≡ files.
 IsNamed (Some (Address topology)) name = name ≡ topology
 IsNamed (Some (Lease leased)) name = name ≡ leased.topology
 IsNamed (Some (Registry files)) name = (name ≡ files.topology) ⊎ (name ≡ files.records)
+IsNamed (Some (Record stated)) name = name ≡ stated.topology

@@ -1,8 +1,10 @@
 ghost use Rattle.std.specs.Prelude.{◌≡◌, map, option_map, string_bytes};
-ghost use Rattle.aip_top.specs.Words.{command_of, command_of_three, command_of_two, lease_of};
+ghost use Rattle.aip_top.specs.Words.{command_of, command_of_many, command_of_seven, command_of_three, command_of_two, kind_of_word, lease_of, statement_of, time_of};
 ghost use Rattle.aip_top.specs.Named.{named};
 
 use aip_addr::Name;
+use aip_registry::RecordKind;
+use aip_text::{read_name, read_number};
 
 /// The two files that a run names.
 #[derive(Clone, Copy)]
@@ -31,6 +33,30 @@ pub struct RegistryWords<'a> {
     pub records: &'a String,
 }
 
+/// What a record is to say, by names.
+#[derive(Clone, Copy)]
+pub struct Statement {
+    /// The domain that signs it.
+    pub domain: Name,
+    /// Whether it is a peering or a binding.
+    pub kind: RecordKind,
+    /// The domain or the host that it is about.
+    pub other: Name,
+    /// Its number.
+    pub number: u64,
+    /// The first tick at which it isn't in force any more.
+    pub until: u64,
+}
+
+/// The file that a record names, and what it is to say.
+#[derive(Clone, Copy)]
+pub struct RecordWords<'a> {
+    /// The file of the topology.
+    pub topology: &'a String,
+    /// What the record is to say.
+    pub said: Statement,
+}
+
 /// A command.
 #[derive(Clone, Copy)]
 pub enum Command<'a> {
@@ -42,6 +68,8 @@ pub enum Command<'a> {
     Lease(LeaseWords<'a>),
     /// `registry TOPO RECORDS`
     Registry(RegistryWords<'a>),
+    /// `record TOPO DOMAIN peer DOMAIN NUMBER UNTIL`, or `bind HOST` in place of `peer DOMAIN`
+    Record(RecordWords<'a>),
 }
 
 fn command_of_two<'a>(word: &'a String, topology: &'a String) -> Option<Command<'a>>
@@ -88,6 +116,92 @@ fn command_of_three<'a>(
     }
 }
 
+// The kind of record that a word names.
+fn kind_of_word(word: &[u8]) -> Option<RecordKind>
+    ensures { result ≡ kind_of_word word.now }
+{
+    if word == b"peer".as_slice() {
+        Some(RecordKind::Peer)
+    } else if word == b"bind".as_slice() {
+        Some(RecordKind::Bind)
+    } else {
+        None
+    }
+}
+
+// A number below 2^48.
+fn time_of(word: &[u8]) -> Option<u64>
+    ensures { result ≡ time_of word.now }
+{
+    let number = read_number(word)?;
+    if number < 1 << 48 { Some(number) } else { None }
+}
+
+// What a record is to say.
+fn statement_of(
+    domain: &[u8],
+    kind: &[u8],
+    other: &[u8],
+    number: &[u8],
+    until: &[u8],
+) -> Option<Statement>
+    ensures { result ≡ statement_of domain.now kind.now other.now number.now until.now }
+{
+    let domain = read_name(domain)?;
+    let kind = kind_of_word(kind)?;
+    let other = read_name(other)?;
+    let number = time_of(number)?;
+    let until = time_of(until)?;
+    Some(Statement {
+        domain,
+        kind,
+        other,
+        number,
+        until,
+    })
+}
+
+fn command_of_seven<'a>(
+    word: &'a String,
+    topology: &'a String,
+    domain: &'a String,
+    kind: &'a String,
+    other: &'a String,
+    number: &'a String,
+    until: &'a String,
+) -> Option<Command<'a>>
+    ensures { option_map named result
+        ≡ command_of_seven (string_bytes word.now) (string_bytes topology.now) (string_bytes domain.now) (string_bytes kind.now)
+        (string_bytes other.now) (string_bytes number.now) (string_bytes until.now) }
+{
+    if word.as_str() != "record" {
+        return None;
+    }
+    let said = statement_of(
+        domain.as_bytes(),
+        kind.as_bytes(),
+        other.as_bytes(),
+        number.as_bytes(),
+        until.as_bytes(),
+    );
+    match said {
+        Some(said) => Some(Command::Record(RecordWords { topology, said })),
+        None => None,
+    }
+}
+
+// The command of more than three words.
+fn command_of_many(words: &[String]) -> Option<Command<'_>>
+    ensures { option_map named result ≡ command_of_many (map string_bytes words.now) }
+{
+    if words.len() != 7 {
+        return None;
+    }
+    command_of_seven(
+        &words[0], &words[1], &words[2], &words[3], &words[4], &words[5], &words[6],
+    )
+}
+
 /// The command that the words spell, if they spell one.
 pub fn command_of(words: &[String]) -> Option<Command<'_>>
     ensures { option_map named result ≡ command_of (map string_bytes words.now) }
@@ -95,6 +209,6 @@ pub fn command_of(words: &[String]) -> Option<Command<'_>>
     match words {
         [word, topology] => command_of_two(word, topology),
         [word, topology, third] => command_of_three(word, topology, third),
-        _ => None,
+        _ => command_of_many(words),
     }
 }

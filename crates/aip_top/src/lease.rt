@@ -65,7 +65,8 @@ fn wanted_of(alloc: Global, tree: &Tree) -> Result<Wanted, Memory>
     Ok(Wanted { id, height, text })
 }
 
-fn domain_named<'a>(domains: &'a [Domain], name: &Name) -> Option<&'a Domain>
+/// The domain of this name.
+pub fn domain_named<'a>(domains: &'a [Domain], name: &Name) -> Option<&'a Domain>
     ensures { option_map (λ d. d.now) result ≡ find (λ (d : NamedDomain). bytes_eq d.name name.now) domains.now }
 {
     domains.iter().find(|d| d.name == *name)

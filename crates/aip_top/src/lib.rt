@@ -10,6 +10,7 @@
 
 mod address;
 mod command;
+mod issue;
 mod lease;
 mod registry;
 mod run;

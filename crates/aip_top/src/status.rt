@@ -6,8 +6,9 @@ use aip_records::{RecordFault, RecordsEnd};
 use aip_rules::StepFault;
 use aip_sim::{RunEnd, TopologyEnd};
 use aip_topo::TopoFault;
+use record_signer::SigningFault;
 
-/// Why a lease is refused.
+/// Why a lease or a record is refused.
 #[derive(Clone, Copy, Debug, PartialEq, Eq)]
 pub enum LeaseFault {
     /// The topology has no domain of that name.
@@ -18,6 +19,25 @@ pub enum LeaseFault {
     Already {
         /// The identifier I of the key, 16 bytes.
         id: [u8; 16],
+        /// The height of its tree.
+        height: u8,
+    },
+    /// The file has no head, its gate is closed, or it lacks a byte for some leaf of the key.
+    Unformatted {
+        /// The length of the file.
+        length: u64,
+        /// Its first byte, or 0 where it has none.
+        gate: u8,
+    },
+    /// The file is formatted for another key, with this identifier and height.
+    OtherKey {
+        /// The identifier I of the key, 16 bytes.
+        id: [u8; 16],
+        /// The height of its tree.
+        height: u8,
+    },
+    /// No leaf of the key is left.
+    Dry {
         /// The height of its tree.
         height: u8,
     },
@@ -52,7 +72,7 @@ pub enum Status {
     DiskFault,
     /// There was no memory.
     Memory,
-    /// The lease is refused. Nothing was written, and the file is as it was.
+    /// The lease or the record is refused. Nothing was written, and no byte of the file changed.
     Lease(LeaseFault),
     /// A line of the record file is refused. Nothing was written.
     Record {
@@ -105,6 +125,27 @@ impl From<TopologyEnd> for Status {
             TopologyEnd::ReadFault => Status::ReadFault,
             TopologyEnd::Refused { line, fault } => Status::Topology { line, fault },
             TopologyEnd::Memory => Status::Memory,
+        }
+    }
+}
+
+impl From<SigningFault> for Status {
+    ghost use Rattle.std.specs.Prelude.{◌≡◌};
+    ghost use Rattle.aip_top.specs.Recording.{status_unsigned};
+
+    ghost from_gives = { λ fault status. status ≡ status_unsigned fault };
+
+    fn from(fault: SigningFault) -> Self {
+        match fault {
+            SigningFault::Disk => Status::DiskFault,
+            SigningFault::Unformatted { length, gate } => {
+                Status::Lease(LeaseFault::Unformatted { length, gate })
+            }
+            SigningFault::OtherKey { id, height } => {
+                Status::Lease(LeaseFault::OtherKey { id, height })
+            }
+            SigningFault::Dry { height } => Status::Lease(LeaseFault::Dry { height }),
+            SigningFault::Memory => Status::Memory,
         }
     }
 }

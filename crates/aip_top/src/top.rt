@@ -3,14 +3,16 @@ ghost use Rattle.std.specs.Prelude.{◌≡◌, ◌↔◌, ◌⊎◌, None, true,
 ghost use Rattle.aip_io.specs.Causes.{Rose};
 ghost use Rattle.aip_rules.specs.Promises.{ForwardsAreJustified, GuardsAreSilent, HoldsOfRun, NoLeafSignsTwice};
 ghost use Rattle.aip_sim.specs.Causes.{HasCause, ReadsOnly};
-ghost use Rattle.aip_top.specs.Commands.{AddressOf, KeepsLeases, LeaseOf, RegistryOf, RunOf};
+ghost use Rattle.aip_top.specs.Commands.{AddressOf, KeepsLeases, LeaseOf, RecordOf, RegistryOf, RunOf};
 ghost use Rattle.aip_top.specs.Judged.{end_by, Judges};
 ghost use Rattle.aip_top.specs.Leasing.{OfItsKey};
+ghost use Rattle.aip_top.specs.Recording.{KeepsRecords, OfItsDraft};
 ghost use Rattle.aip_top.specs.Statuses.{kind_of};
-ghost use Rattle.aip_top.specs.Words.{spelled, topology_in, IsNamed, OfAddress, OfLease, OfRecords, OfRegistry, OfRun, OfTexts};
+ghost use Rattle.aip_top.specs.Words.{spelled, topology_in, IsNamed, OfAddress, OfLease, OfRecord, OfRecords, OfRegistry, OfRun, OfTexts};
 
 use crate::address::address;
 use crate::command::{Command, command_of};
+use crate::issue::issue;
 use crate::lease::lease;
 use crate::registry::registry;
 use crate::run::run;
@@ -26,7 +28,9 @@ use std::alloc::Global;
 /// `run TOPO SCHED` writes the trace of the schedule over the topology, and a refusal line where a line of the schedule is
 /// refused. `address TOPO` writes the addresses of the domains, routers and hosts. `lease TOPO DOMAIN` formats the disk as
 /// the lease file of the domain's key, unless it is a lease file already, and writes the key's identifier and height.
-/// `registry TOPO RECORDS` writes the list of the newest of the records, unless a line of their file is refused.
+/// `record TOPO DOMAIN peer DOMAIN NUMBER UNTIL` and `record TOPO DOMAIN bind HOST NUMBER UNTIL` sign a record with the next
+/// leaf of the domain's lease file, once it is gone there, and write it as a line of hex. `registry TOPO RECORDS` writes the
+/// list of the newest of the records, unless a line of their file is refused.
 #[tactic(auto, using(crate::proofs::Promised::justified, crate::proofs::Promised::silent, crate::proofs::Promised::leaf_once))]
 pub fn aip<S: Shelf, K: Sink, D: Disk>(
     alloc: Global,
@@ -83,9 +87,16 @@ pub fn aip<S: Shelf, K: Sink, D: Disk>(
         (Rose (K.faults out.old) (K.faults out.new)) (Rose (D.faults disk) (D.faults result.1))
         result.0 disk result.1 (K.taken out.old) (K.taken out.new))) }
 
-    // What a lease leaves on the disk at each moment, told or not.
+    ensures record_of { OfRecord (spelled words.now) (λ stated. OfItsDraft (S.text shelf.old) stated (λ key r.
+        RecordOf D.now D.may_leave D.clock D.during key r
+        (Rose (S.faults shelf.old stated.topology) (S.faults shelf.new stated.topology))
+        (Rose (K.faults out.old) (K.faults out.new)) (Rose (D.faults disk) (D.faults result.1))
+        result.0 disk result.1 (K.taken out.old) (K.taken out.new))) }
+
+    // What a lease and a record leave on the disk at each moment, told or not.
     ensures lease_keeps { OfLease (spelled words.now) (λ leased.
         KeepsLeases D.now D.may_leave D.clock D.during result.0 disk result.1) }
+    ensures record_keeps { OfRecord (spelled words.now) (λ stated. KeepsRecords D.may_leave D.clock D.during result.0 disk result.1) }
 
     // The core of a run comes back exactly on Done and Schedule.
     ensures core { is_some result.2 ≡ (kind_of result.0).gives_core (spelled words.now) }
@@ -109,6 +120,11 @@ pub fn aip<S: Shelf, K: Sink, D: Disk>(
             let topology = words.topology.as_str();
             let records = words.records.as_str();
             let status = registry(alloc, shelf, topology, records, out);
+            (status, disk, None)
+        }
+        Some(Command::Record(words)) => {
+            let topology = words.topology.as_str();
+            let (status, disk) = issue(alloc, shelf, topology, &words.said, out, disk);
             (status, disk, None)
         }
         None => (Status::Usage, disk, None),

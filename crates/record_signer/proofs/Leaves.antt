@@ -14,7 +14,7 @@ use Rattle.leaf_lease.specs.LeaseFile.{HasKey, IsFirstFree, IsGone, IsLeaseFile,
 use Rattle.aip_registry.specs.declared.records.Record.{Record}
 use Rattle.record_signer.specs.declared.faults.SigningFault.{SigningFault}
 use Rattle.record_signer.specs.declared.faults.SigningFault.TheVariants as fault
-use Rattle.record_signer.specs.Signed.{IsOrCut, IsSigningFault, Signs, leaf_of, SparesBut, has_key, next_below, next_leaf, signed_at, signed_by, signed_line}
+use Rattle.record_signer.specs.Signed.{IsOrCut, IsSigningFault, Signs, is_refusal, leaf_of, SparesBut, has_key, next_below, next_leaf, signed_at, signed_by, signed_line}
 
 -- ## The next leaf of a file
 
@@ -145,6 +145,25 @@ by_signer key opened r file leaf result same is signed left why =
     by_signing key r file leaf result is (subst (λ (k : Key). IfOk result (λ line. line ≡ signed_line k leaf r)) same signed)
     (subst (λ (k : Key). OnOk result (leaf ≢ leaves_of k.height)) same left) (subst (λ (k : Key). IfErr result (IsSigningFault k leaf)) same why)
 
+-- a signer that was opened refuses a record only where no leaf is left
+refused_at_end : (key : Key) (leaf : ℕ) (result : Result (List ℕ) SigningFault) → IfErr result (IsSigningFault key leaf) → is_refusal result ≡ true → leaf ≡ leaves_of key.height
+refused_at_end key leaf (Ok line) why is = absurd (cc)
+refused_at_end key leaf (Err (fault.Dry height)) why is = why.0
+refused_at_end key leaf (Err fault.Disk) why is = absurd (cc)
+refused_at_end key leaf (Err fault.Memory) why is = absurd (cc)
+refused_at_end key leaf (Err (fault.Unformatted size gate)) why is = absurd why
+refused_at_end key leaf (Err (fault.OtherKey id height)) why is = absurd why
+
+-- and so does a file that was opened
+refused_at : (b : Bool) (height : ℕ) (line : List ℕ) → is_refusal (cond b (Err (fault.Dry height)) (Ok line)) ≡ true → b ≡ true
+refused_at true height line is = refl
+refused_at false height line is = absurd (cc)
+
+none_left : (key : Key) (r : Record) (file : List ℕ) (leaf : ℕ) → IsLeaseFile (identifier_of key.seed) (levels_of key.height) leaf file → is_refusal (signed_by key r file) ≡ true → leaf ≡ leaves_of key.height
+none_left key r file leaf is refused =
+    (Decides-eqb leaf (leaves_of key.height)).0
+    (refused_at (leaf == leaves_of key.height) (levels_of key.height) (signed_line key leaf r) (ap is_refusal (sym (by_leaf key r file leaf is)) ∙ refused))
+
 -- ## What a crash may leave
 
 away : (a b : ℕ) → a ≢ b → (a < b) ⊎ (b + 1 ≤ a)
@@ -229,8 +248,17 @@ module _ {D : Type 0} (may_leave : D → List ℕ → Type 0) (clock : D → ℕ
 
 module _ {D : Type 0} (content : D → Option (List ℕ)) (may_leave : D → List ℕ → Type 0) (clock : D → ℕ) (during : D → ℕ → List ℕ → Type 0) where
   -- no signer was opened
-  pub refused_signs : (key : Key) (r : Record) (old new : D) (f : SigningFault) → SparesBut may_leave clock during (leaf_of key (content old)) old new → Signs content may_leave clock during key r old new (Err f)
-  refused_signs key r old new f spares = record { leaf = leaf_of key (content old); next = λ file told. ap (leaf_of key) told; line = tt; gone = tt; spares = spares }
+  pub refused_signs : (key : Key) (r : Record) (old new : D) (f : SigningFault) → SparesBut may_leave clock during (leaf_of key (content old)) old new → AtEachMoment clock during old new (may_leave old)
+      → Signs content may_leave clock during key r old new (Err f)
+  refused_signs key r old new f spares moments = record {
+    leaf = leaf_of key (content old);
+    next = λ file told. ap (leaf_of key) told;
+    line = tt;
+    gone = tt;
+    looks = λ is. moments;
+    spared = λ file told is. moments;
+    spares = spares;
+  }
 
   -- an image of the disk that was opened is the file that was opened
   from_file : ((disk : D) (image : List ℕ) → content disk ≡ Some image → may_leave disk image) → (key : Key) (old mid : D) (leaf : ℕ)
@@ -250,13 +278,19 @@ module _ {D : Type 0} (content : D → Option (List ℕ)) (may_leave : D → Lis
       → ((at : ℕ) → KeepsByte at (may_leave old) (during mid (clock old))) → NoLongerThan 0 (may_leave old) (during mid (clock old)) → clock mid ≤ clock old + 1
       → leaf ≤ leaves_of opened.height
       → IfOk result (λ line. line ≡ signed_line opened leaf r) → OnOk result ((image : List ℕ) → may_leave new image → IsGone leaf image) → (leaf ≡ leaves_of opened.height → new ≡ mid)
+      → IfErr result (IsSigningFault opened leaf)
       → AtEachMoment clock during mid new (AfterWrite (may_leave mid) (head_size + leaf) 1) → clock new ≤ clock mid + 2
       → Signs content may_leave clock during key r old new result
-  signed_signs is_image key opened r old mid new leaf result same says still firm moments gone bytes lengths first within line taken dry wrote second = record {
+  signed_signs is_image key opened r old mid new leaf result same says still firm moments gone bytes lengths first within line taken dry why wrote second = record {
     leaf = leaf;
     next = λ file told. sym (next_is key file leaf (says file told).first_free);
     line = subst (λ (k : Key). IfOk result (λ line. line ≡ signed_line k leaf r)) same line;
     gone = taken;
+    looks = λ is. unmet (refused_at_end opened leaf result why is);
+    spared = λ file told is. unmet (none_left key r file leaf (says file told) is ∙ ap (λ (k : Key). leaves_of k.height) (sym same));
     spares = signed_spares may_leave clock during (levels_of key.height) leaf old mid new (subst (λ (k : Key). leaf ≡ leaves_of k.height → new ≡ mid) same dry)
         (from_file is_image key old mid leaf says still firm) moments gone bytes lengths first wrote second (subst (λ (k : Key). leaf ≤ leaves_of k.height) same within);
   }
+    where
+      unmet : leaf ≡ leaves_of opened.height → AtEachMoment clock during old new (may_leave old)
+      unmet is = subst (λ d. AtEachMoment clock during old d (may_leave old)) (sym (dry is)) moments

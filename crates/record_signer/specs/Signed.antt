@@ -64,6 +64,15 @@ is_disk_fault (Err (fault.OtherKey id height)) = false
 is_disk_fault (Err (fault.Dry height)) = false
 is_disk_fault (Err fault.Memory) = false
 
+-- whether the file refuses the record: its gate is closed, it is short or of another key, or no leaf is left
+abbrev pub is_refusal : Result (List ℕ) SigningFault → Bool
+is_refusal (Ok line) = false
+is_refusal (Err fault.Disk) = false
+is_refusal (Err (fault.Unformatted size gate)) = true
+is_refusal (Err (fault.OtherKey id height)) = true
+is_refusal (Err (fault.Dry height)) = true
+is_refusal (Err fault.Memory) = false
+
 -- why a signer that was opened gave no record: no leaf was left, the disk failed, or memory was wanting
 abbrev pub IsSigningFault : Key → ℕ → SigningFault → Type 0
 IsSigningFault key next (fault.Dry height) = (next ≡ leaves_of key.height) × (height ≡ levels_of key.height)
@@ -86,10 +95,12 @@ pub record SparesBut {D : Type 0} (may_leave : D → List ℕ → Type 0) (clock
 
 -- What a signing does over a disk with one leaf of the key, which is the next where the file is told: a line that is given
 -- is signed with it, and then it is gone in every image that a crash may leave. But for its byte all stays, whatever the
--- answer.
+-- answer; and where the file refuses the record, that byte too: each image of each moment is one of those at the start.
 pub record Signs {D : Type 0} (content : D → Option (List ℕ)) (may_leave : D → List ℕ → Type 0) (clock : D → ℕ) (during : D → ℕ → List ℕ → Type 0) (key : Key) (r : Record) (old new : D) (result : Result (List ℕ) SigningFault) : Type 0 where
   pub leaf : ℕ
   pub next : ForSome (content old) (λ file. leaf ≡ next_leaf key file)
   pub line : IfOk result (λ line. line ≡ signed_line key leaf r)
   pub gone : OnOk result ((image : List ℕ) → may_leave new image → IsGone leaf image)
+  pub looks : is_refusal result ≡ true → AtEachMoment clock during old new (may_leave old)
+  pub spared : ForSome (content old) (λ file. is_refusal (signed_by key r file) ≡ true → AtEachMoment clock during old new (may_leave old))
   pub spares : SparesBut may_leave clock during leaf old new

@@ -2,6 +2,7 @@ use Rattle.std.proofs.Common.{◌≡◌, ◌≤◌, ◌^◌, inl, Ok, Err, Some,
 use Rattle.std.specs.Prelude.{Result}
 use Rattle.lms_core.specs.Parameters.{levels_of}
 use Rattle.lms_core.specs.Tree.{identifier_of}
+use Rattle.lease_disk.specs.Images.{AtEachMoment}
 use Rattle.leaf_lease.specs.Ends.{OpenSays, opened_disk}
 use Rattle.host_signer.specs.Signers.{disk_of, next_of}
 use Rattle.record_signer.specs.declared.faults.SigningFault.{SigningFault}
@@ -27,6 +28,7 @@ returns-in-Failed-clause-signs g c =
     let spares = opened_spares D.may_leave D.clock D.during leaf c.args.disk (opened_disk {G = D} (Err c.in-Err.field-0.end)) end.moments end.keeps_gone end.keeps_bytes end.no_longer end.clock in
     refused_signs D.now D.may_leave D.clock D.during c.args.tree c.args.fields.now c.args.disk c.in-Failed.disk _
     (subst (λ e. SparesBut D.may_leave D.clock D.during leaf c.args.disk (opened_disk {G = D} (Err e))) c.in-Failed.is spares)
+    (subst (λ e. AtEachMoment D.clock D.during c.args.disk (opened_disk {G = D} (Err e)) (D.may_leave c.args.disk)) c.in-Failed.is end.moments)
 
 pub returns-in-Unformatted-clause-signs : goal.returns-in-Unformatted-clause-signs
 returns-in-Unformatted-clause-signs g c =
@@ -36,6 +38,7 @@ returns-in-Unformatted-clause-signs g c =
     let spares = opened_spares D.may_leave D.clock D.during leaf c.args.disk (opened_disk {G = D} (Err c.in-Err.field-0.end)) end.moments end.keeps_gone end.keeps_bytes end.no_longer end.clock in
     refused_signs D.now D.may_leave D.clock D.during c.args.tree c.args.fields.now c.args.disk c.in-Unformatted.disk _
     (subst (λ e. SparesBut D.may_leave D.clock D.during leaf c.args.disk (opened_disk {G = D} (Err e))) c.in-Unformatted.is spares)
+    (subst (λ e. AtEachMoment D.clock D.during c.args.disk (opened_disk {G = D} (Err e)) (D.may_leave c.args.disk)) c.in-Unformatted.is end.moments)
 
 pub returns-clause-signs : goal.returns-clause-signs
 returns-clause-signs g c =
@@ -45,6 +48,7 @@ returns-clause-signs g c =
     let spares = opened_spares D.may_leave D.clock D.during leaf c.args.disk (opened_disk {G = D} (Err c.in-Err.field-0.end)) end.moments end.keeps_gone end.keeps_bytes end.no_longer end.clock in
     refused_signs D.now D.may_leave D.clock D.during c.args.tree c.args.fields.now c.args.disk c.in-OtherKey.disk _
     (subst (λ e. SparesBut D.may_leave D.clock D.during leaf c.args.disk (opened_disk {G = D} (Err e))) c.in-OtherKey.is spares)
+    (subst (λ e. AtEachMoment D.clock D.during c.args.disk (opened_disk {G = D} (Err e)) (D.may_leave c.args.disk)) c.in-OtherKey.is end.moments)
 
 pub returns-in-Ok-clause-told : goal.returns-in-Ok-clause-told
 returns-in-Ok-clause-told g c = λ file told.
@@ -58,4 +62,4 @@ returns-in-Ok-clause-signs g c =
     let signed = c.sign.ensures in
     signed_signs D.now D.may_leave D.clock D.during g.met.D.Disk.content_is_image c.args.tree _ c.args.fields.now c.args.disk (disk_of signer) c.sign.result.1 (next_of signer) c.sign.result.0
     opened.tree opened.says opened.content opened.firm opened.moments opened.keeps_gone opened.keeps_bytes opened.no_longer opened.clock
-    (subst (λ levels. next_of signer ≤ 2 ^ levels) signer.same_height signer.leases.within) signed.line signed.gone signed.dry signed.moments signed.clock
+    (subst (λ levels. next_of signer ≤ 2 ^ levels) signer.same_height signer.leases.within) signed.line signed.gone signed.dry signed.refused signed.moments signed.clock

@@ -1,0 +1,18 @@
+use Rattle.std.proofs.Common.{subst}
+use Rattle.aip_io.specs.Causes.{Rose}
+use Rattle.aip_top.specs.Recording.{drafted_of}
+use Rattle.aip_top.proofs.Recorded.{before_disk, keeps_same}
+use Rattle.aip_top.proofs.issue.issue.Goals as goal
+
+pub returns-in-Err-clause-told : goal.returns-in-Err-clause-told
+returns-in-Err-clause-told g c =
+    let D = g.D.Disk in
+    let old = g.S.Shelf.faults c.args.shelf.now in
+    let new = g.S.Shelf.faults c.draft_of.new.shelf in
+    before_disk D.now D.may_leave D.clock D.during g.met.D.Disk.only_now (g.S.Shelf.text c.args.shelf.now c.args.topology.now) (λ told. drafted_of told c.args.said.now)
+    (Rose (old c.args.topology.now) (new c.args.topology.now)) (Rose (g.K.Sink.faults c.args.out.now) (g.K.Sink.faults c.args.out.now)) (Rose (D.faults c.args.disk) (D.faults c.args.disk))
+    c.in-Err.end c.args.disk (g.K.Sink.taken c.args.out.now) c.in-Err.ensures.ended
+    (λ is. let rose = c.in-Err.ensures.counts.rose (cc) in subst (λ name. Rose (old name) (new name)) rose.1.0 rose.1.1)
+
+pub returns-in-Err-clause-keeps : goal.returns-in-Err-clause-keeps
+returns-in-Err-clause-keeps g c = keeps_same g.D.Disk.now g.D.Disk.may_leave g.D.Disk.clock g.D.Disk.during g.met.D.Disk.only_now c.in-Err.end c.args.disk
