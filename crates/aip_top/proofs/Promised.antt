@@ -4,10 +4,9 @@ use Rattle.std.specs.Prelude.{IfSome}
 use Rattle.aip_io.specs.Causes.{Rose}
 use Rattle.aip_rules.specs.Promises.{ForwardsAreJustified, GuardsAreSilent, HoldsOfRun, NoLeafSignsTwice}
 use Rattle.aip_sim.proofs.Promised as sim
-use Rattle.aip_top.specs.Words.{Command, Files, Stated, OfRun, OfTexts, Run, Address, Lease, Registry, Record, topology_in}
+use Rattle.aip_top.specs.Words.{Command, Files, OfRun, OfTexts, Run, Address, Lease, Registry, Record, Replay, topology_in}
 use Rattle.aip_top.specs.declared.status.Status.{Status}
 use Rattle.aip_top.specs.Judged.{Judges, end_by}
-use Rattle.aip_top.specs.Recording.{denial_in, drafted_of}
 
 -- what holds of two files whatever they are holds of those that a run names
 of_words : (text : List ℕ → Option (List ℕ)) (P : List ℕ → List ℕ → Type 0) → ((files : Files) → OfTexts text files P)
@@ -18,6 +17,7 @@ of_words text P holds (Some (Address topology)) = tt
 of_words text P holds (Some (Lease leased)) = tt
 of_words text P holds (Some (Registry files)) = tt
 of_words text P holds (Some (Record stated)) = tt
+of_words text P holds (Some (Replay files)) = tt
 
 pub justified : (text : List ℕ → Option (List ℕ)) (command : Option Command) → OfRun command (λ files. OfTexts text files (HoldsOfRun ForwardsAreJustified))
 justified text = of_words text (HoldsOfRun ForwardsAreJustified) (λ files. sim.justified (text files.topology) (text files.schedule))
@@ -28,12 +28,12 @@ silent text = of_words text (HoldsOfRun GuardsAreSilent) (λ files. sim.silent (
 pub leaf_once : (text : List ℕ → Option (List ℕ)) (command : Option Command) → OfRun command (λ files. OfTexts text files (HoldsOfRun NoLeafSignsTwice))
 leaf_once text = of_words text (HoldsOfRun NoLeafSignsTwice) (λ files. sim.leaf_once (text files.topology) (text files.schedule))
 
--- ## A record that the topology text decides
+-- ## A command that the topology text decides
 
--- what the topology says of a record it says of the command
-pub record_judged : (command : Option Command) (stated : Stated) (name : List ℕ) (text : List ℕ → Option (List ℕ)) (old new : List ℕ → ℕ) (stays : Type 0) (end : Status) → name ≡ stated.topology → command ≡ Some (Record stated)
-    → IfSome (text name) (λ told. Judges (denial_in (drafted_of told stated.said)) (Rose (old name) (new name)) stays end)
+-- what the topology says of a command that the words spell
+pub judged_as : (command : Option Command) (own : Command) (name : List ℕ) (text : List ℕ → Option (List ℕ)) (old new : List ℕ → ℕ) (stays : Type 0) (end : Status) → name ≡ topology_in own → command ≡ Some own
+    → IfSome (text name) (λ told. Judges (end_by own told) (Rose (old name) (new name)) stays end)
     → IfSome command (λ command. IfSome (text (topology_in command)) (λ told. Judges (end_by command told) (Rose (old (topology_in command)) (new (topology_in command))) stays end))
-record_judged command stated name text old new stays end same is judged =
+judged_as command own name text old new stays end same is judged =
     subst (λ command. IfSome command (λ command. IfSome (text (topology_in command)) (λ told. Judges (end_by command told) (Rose (old (topology_in command)) (new (topology_in command))) stays end))) (sym is)
-    (subst (λ name. IfSome (text name) (λ told. Judges (denial_in (drafted_of told stated.said)) (Rose (old name) (new name)) stays end)) same judged)
+    (subst (λ name. IfSome (text name) (λ told. Judges (end_by own told) (Rose (old name) (new name)) stays end)) same judged)

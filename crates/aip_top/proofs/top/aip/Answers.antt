@@ -1,7 +1,7 @@
-use Rattle.aip_top.specs.Words.{spelled}
+use Rattle.aip_top.specs.Words.{Lease, Record, spelled}
 use Rattle.std.proofs.Common.{◌≡◌, sym}
-use Rattle.aip_top.specs.Named.{stated_of}
-use Rattle.aip_top.proofs.Promised.{justified, silent, leaf_once, record_judged}
+use Rattle.aip_top.specs.Named.{leased_of, stated_of}
+use Rattle.aip_top.proofs.Promised.{justified, silent, leaf_once, judged_as}
 use Rattle.aip_top.proofs.top.aip.Goals as goal
 
 pub returns-in-Some-Run-clause-justified : goal.returns-in-Some-Run-clause-justified
@@ -16,6 +16,13 @@ returns-in-Some-Run-clause-leaf_once g c = leaf_once (g.S.Shelf.text c.args.shel
 pub returns-in-Some-Record-clause-topology : goal.returns-in-Some-Record-clause-topology
 returns-in-Some-Record-clause-topology g c =
     let issued = c.issue-status in
-    record_judged (spelled c.args.words.now) (stated_of c.in-Some-Record.words) c.as_str-topology-in-Some-Record.result.now (g.S.Shelf.text c.args.shelf.now)
+    judged_as (spelled c.args.words.now) (Record (stated_of c.in-Some-Record.words)) c.as_str-topology-in-Some-Record.result.now (g.S.Shelf.text c.args.shelf.now)
     (g.S.Shelf.faults c.args.shelf.now) (g.S.Shelf.faults issued.new.shelf) ((issued.new.out ≡ c.args.out.now) × (issued.result.1 ≡ c.args.disk)) issued.result.0
     c.as_str-topology-in-Some-Record.ensures.value (sym (rw c.in-Some-Record.field-0-is at c.in-Some-Record.ensures)) issued.ensures.judged
+
+pub returns-in-Some-Lease-clause-topology : goal.returns-in-Some-Lease-clause-topology
+returns-in-Some-Lease-clause-topology g c =
+    let leased = c.lease-status in
+    judged_as (spelled c.args.words.now) (Lease (leased_of c.in-Some-Lease.words)) c.as_str-topology-in-Some-Lease.result.now (g.S.Shelf.text c.args.shelf.now)
+    (g.S.Shelf.faults c.args.shelf.now) (g.S.Shelf.faults leased.new.shelf) ((leased.new.out ≡ c.args.out.now) × (leased.result.1 ≡ c.args.disk)) leased.result.0
+    c.as_str-topology-in-Some-Lease.ensures.value (sym (rw c.in-Some-Lease.field-0-is at c.in-Some-Lease.ensures)) leased.ensures.judged
