@@ -55,6 +55,7 @@ fn tell(rt: &impl Eprint, status: Status) -> io::Result<()> {
             let number = fault.number();
             eprintln!(rt; "aip: schedule line {line} fault {number}")
         }
+        Status::Wrong { line } => eprintln!(rt; "aip: wrong line {line}"),
         Status::DiskFault => eprintln!(rt; "aip: disk fault"),
         Status::Lease(fault) => {
             let word = word_of(fault);

@@ -75,6 +75,7 @@ ends_told file status.Memory A B C says late write disk a b c = absurd (late tt)
 ends_told file status.Usage A B C says late write disk a b c = absurd says
 ends_told file (status.Topology line f) A B C says late write disk a b c = absurd says
 ends_told file (status.Schedule line f) A B C says late write disk a b c = absurd says
+ends_told file (status.Wrong line) A B C says late write disk a b c = absurd says
 ends_told file (status.Record line f) A B C says late write disk a b c = absurd says
 ends_told file (status.Lease (fault.Unformatted size gate)) A B C says late write disk a b c = absurd says
 ends_told file (status.Lease (fault.OtherKey id height)) A B C says late write disk a b c = absurd says

@@ -4,7 +4,7 @@ use Rattle.std.specs.Prelude.{IfSome}
 use Rattle.aip_io.specs.Causes.{Rose}
 use Rattle.aip_rules.specs.Promises.{ForwardsAreJustified, GuardsAreSilent, HoldsOfRun, NoLeafSignsTwice}
 use Rattle.aip_sim.proofs.Promised as sim
-use Rattle.aip_top.specs.Words.{Command, Files, OfRun, OfTexts, Run, Address, Lease, Registry, Record, Make, topology_in}
+use Rattle.aip_top.specs.Words.{Command, Files, OfRun, OfTexts, Run, Address, Lease, Registry, Record, Make, Replay, topology_in}
 use Rattle.aip_top.specs.declared.status.Status.{Status}
 use Rattle.aip_top.specs.Judged.{Judges, end_by}
 
@@ -17,6 +17,7 @@ of_words text P holds (Some (Address topology)) = tt
 of_words text P holds (Some (Lease leased)) = tt
 of_words text P holds (Some (Registry files)) = tt
 of_words text P holds (Some (Record stated)) = tt
+of_words text P holds (Some (Replay files)) = tt
 of_words text P holds (Some (Make number)) = tt
 
 pub justified : (text : List ℕ → Option (List ℕ)) (command : Option Command) → OfRun command (λ files. OfTexts text files (HoldsOfRun ForwardsAreJustified))

@@ -30,6 +30,7 @@ ends_or status.Usage expected A B (inl short) read put a b = absurd (cc)
 ends_or status.DiskFault expected A B (inl short) read put a b = absurd (cc)
 ends_or (status.Topology line f) expected A B (inl short) read put a b = absurd (cc)
 ends_or (status.Schedule line f) expected A B (inl short) read put a b = absurd (cc)
+ends_or (status.Wrong line) expected A B (inl short) read put a b = absurd (cc)
 ends_or (status.Record line f) expected A B (inl short) read put a b = absurd (cc)
 ends_or (status.Lease f) expected A B (inl short) read put a b = absurd (kept f short)
   where

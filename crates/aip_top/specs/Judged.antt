@@ -3,7 +3,7 @@ use Rattle.std.specs.Prelude.{◌≡◌, ◌⊎◌, ℕ, ⊤, true, List, Option
 use Rattle.aip_topo.specs.declared.topology.Topology.{Topology}
 use Rattle.aip_topo.specs.Reading.{RefusedLine, topology_of}
 use Rattle.aip_sim.specs.Judged.{end_by as run_end_by}
-use Rattle.aip_top.specs.Words.{Command, Run, Address, Lease, Registry, Record, Make}
+use Rattle.aip_top.specs.Words.{Command, Run, Address, Lease, Registry, Record, Make, Replay}
 use Rattle.aip_top.specs.Recording.{denial_in, drafted_of}
 use Rattle.aip_top.specs.Leasing.{refusal_in, asked_of}
 use Rattle.aip_top.specs.Statuses.{kind_of, status_of_run}
@@ -25,6 +25,7 @@ end_by (Run files) text = option_map status_of_run (run_end_by text)
 end_by (Address topology) text = refusal_of text
 end_by (Lease leased) text = refusal_in (asked_of text leased.domain)
 end_by (Registry files) text = refusal_of text
+end_by (Replay files) text = refusal_of text
 end_by (Record stated) text = denial_in (drafted_of text stated.said)
 end_by (Make number) text = None
 
@@ -64,6 +65,7 @@ IsOpeningEnd status.Done = ⊥
 IsOpeningEnd status.Usage = ⊥
 IsOpeningEnd status.WriteFault = ⊥
 IsOpeningEnd (status.Schedule line f) = ⊥
+IsOpeningEnd (status.Wrong line) = ⊥
 IsOpeningEnd status.DiskFault = ⊥
 IsOpeningEnd (status.Lease f) = ⊥
 IsOpeningEnd (status.Record line f) = ⊥

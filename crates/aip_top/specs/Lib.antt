@@ -3,6 +3,7 @@ pub mod Statuses
 pub mod Named
 pub mod Judged
 pub mod Written
+pub mod Verdicts
 pub mod Addresses
 pub mod Listings
 pub mod Leasing

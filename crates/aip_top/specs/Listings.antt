@@ -50,5 +50,6 @@ IsListingEnd status.Done = ⊥
 IsListingEnd status.Usage = ⊥
 IsListingEnd status.WriteFault = ⊥
 IsListingEnd (status.Schedule line f) = ⊥
+IsListingEnd (status.Wrong line) = ⊥
 IsListingEnd status.DiskFault = ⊥
 IsListingEnd (status.Lease f) = ⊥

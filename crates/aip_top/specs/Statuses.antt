@@ -10,7 +10,7 @@ use Rattle.aip_records.specs.declared.faults.RecordsEnd.{RecordsEnd}
 use Rattle.aip_records.specs.declared.faults.RecordsEnd.TheVariants as records_end
 use Rattle.aip_make.specs.declared.ends.MadeEnd.{MadeEnd}
 use Rattle.aip_make.specs.declared.ends.MadeEnd.TheVariants as made_end
-use Rattle.aip_top.specs.Words.{Command, is_run, is_lease, is_registry, is_record, is_of_disk, is_scheduled, is_of_files, is_no_command, is_any_command, is_never}
+use Rattle.aip_top.specs.Words.{Command, is_run, is_lease, is_registry, is_record, is_replay, is_of_disk, is_scheduled, is_of_files, is_no_command, is_any_command, is_never}
 use Rattle.aip_top.specs.declared.status.Status.{Status}
 use Rattle.aip_top.specs.declared.status.Status.TheVariants as status
 use Rattle.aip_top.specs.declared.status.LeaseFault.TheVariants as fault
@@ -23,6 +23,7 @@ exit_code_of status.ReadFault = 3
 exit_code_of status.WriteFault = 4
 exit_code_of (status.Topology line f) = 5
 exit_code_of (status.Schedule line f) = 6
+exit_code_of (status.Wrong line) = 7
 exit_code_of status.DiskFault = 8
 exit_code_of status.Memory = 9
 exit_code_of (status.Lease f) = 10
@@ -78,6 +79,7 @@ kind_of status.ReadFault = record { answers = is_of_files; writes = is_run; meet
 kind_of status.WriteFault = record { answers = is_any_command; writes = is_any_command; meets_disk = is_of_disk; gives_core = is_never; refuses = false; cuts_short = true }
 kind_of (status.Topology line f) = record { answers = is_any_command; writes = is_never; meets_disk = is_never; gives_core = is_never; refuses = true; cuts_short = false }
 kind_of (status.Schedule line f) = record { answers = is_scheduled; writes = is_run; meets_disk = is_never; gives_core = is_run; refuses = false; cuts_short = false }
+kind_of (status.Wrong line) = record { answers = is_replay; writes = is_replay; meets_disk = is_never; gives_core = is_never; refuses = false; cuts_short = false }
 kind_of status.DiskFault = record { answers = is_of_disk; writes = is_never; meets_disk = is_of_disk; gives_core = is_never; refuses = false; cuts_short = false }
 kind_of (status.Lease fault.Unknown) = record { answers = is_of_disk; writes = is_never; meets_disk = is_never; gives_core = is_never; refuses = true; cuts_short = false }
 kind_of (status.Lease fault.Keyless) = record { answers = is_of_disk; writes = is_never; meets_disk = is_never; gives_core = is_never; refuses = true; cuts_short = false }

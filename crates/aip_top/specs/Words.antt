@@ -24,19 +24,25 @@ pub record RecordFiles : Type 0 where
   pub topology : List ℕ
   pub records : List ℕ
 
+-- the two files that a replay names
+pub record TraceFiles : Type 0 where
+  pub topology : List ℕ
+  pub trace : List ℕ
+
 -- the file that a record names, and what it is to say
 pub record Stated : Type 0 where
   pub topology : List ℕ
   pub said : Statement
 
--- a command: `run TOPO SCHED`, `address TOPO`, `lease TOPO DOMAIN`, `registry TOPO RECORDS`, `record TOPO DOMAIN` with what
--- the record is to say, or `make N`
+-- a command: `run TOPO SCHED`, `address TOPO`, `lease TOPO DOMAIN`, `registry TOPO RECORDS`, `replay TOPO TRACE`,
+-- `record TOPO DOMAIN` with what the record is to say, or `make N`
 pub data Command : Type 0 where
   Run : Files → Command
   Address : (topology : List ℕ) → Command
   Lease : Leased → Command
   Registry : RecordFiles → Command
   Record : Stated → Command
+  Replay : TraceFiles → Command
   Make : (number : ℕ) → Command
 
 -- the number of a workload: it is below 2^32
@@ -64,6 +70,7 @@ command_of_three word topology third =
     if bytes_eq word (codes "run") then Some (Run (record { topology = topology; schedule = third }))
     else if bytes_eq word (codes "lease") then lease_of topology third
     else if bytes_eq word (codes "registry") then Some (Registry (record { topology = topology; records = third }))
+    else if bytes_eq word (codes "replay") then Some (Replay (record { topology = topology; trace = third }))
     else None
 
 -- the kind of record that a word names
@@ -119,6 +126,7 @@ topology_in (Address topology) = Some topology
 topology_in (Lease leased) = Some leased.topology
 topology_in (Registry files) = Some files.topology
 topology_in (Record stated) = Some stated.topology
+topology_in (Replay files) = Some files.topology
 topology_in (Make number) = None
 
 -- what holds of the two files, where the command is a run
@@ -129,6 +137,7 @@ OfRun (Some (Address topology)) holds = ⊤
 OfRun (Some (Lease leased)) holds = ⊤
 OfRun (Some (Registry files)) holds = ⊤
 OfRun (Some (Record stated)) holds = ⊤
+OfRun (Some (Replay files)) holds = ⊤
 OfRun (Some (Make number)) holds = ⊤
 
 -- what holds of the texts of the two files, where they are told
@@ -143,6 +152,7 @@ OfAddress (Some (Address topology)) holds = holds topology
 OfAddress (Some (Lease leased)) holds = ⊤
 OfAddress (Some (Registry files)) holds = ⊤
 OfAddress (Some (Record stated)) holds = ⊤
+OfAddress (Some (Replay files)) holds = ⊤
 OfAddress (Some (Make number)) holds = ⊤
 
 -- what holds of the file and the domain, where the command is a lease
@@ -153,6 +163,7 @@ OfLease (Some (Address topology)) holds = ⊤
 OfLease (Some (Lease leased)) holds = holds leased
 OfLease (Some (Registry files)) holds = ⊤
 OfLease (Some (Record stated)) holds = ⊤
+OfLease (Some (Replay files)) holds = ⊤
 OfLease (Some (Make number)) holds = ⊤
 
 -- what holds of the two files, where the list of records is asked for
@@ -163,6 +174,7 @@ OfRegistry (Some (Address topology)) holds = ⊤
 OfRegistry (Some (Lease leased)) holds = ⊤
 OfRegistry (Some (Registry files)) holds = holds files
 OfRegistry (Some (Record stated)) holds = ⊤
+OfRegistry (Some (Replay files)) holds = ⊤
 OfRegistry (Some (Make number)) holds = ⊤
 
 -- what holds of the file and of what a record is to say, where the command is a record
@@ -173,6 +185,7 @@ OfRecord (Some (Address topology)) holds = ⊤
 OfRecord (Some (Lease leased)) holds = ⊤
 OfRecord (Some (Registry files)) holds = ⊤
 OfRecord (Some (Record stated)) holds = holds stated
+OfRecord (Some (Replay files)) holds = ⊤
 OfRecord (Some (Make number)) holds = ⊤
 
 -- what holds of the number of a workload, where the command makes one
@@ -183,11 +196,27 @@ OfMake (Some (Address topology)) holds = ⊤
 OfMake (Some (Lease leased)) holds = ⊤
 OfMake (Some (Registry files)) holds = ⊤
 OfMake (Some (Record stated)) holds = ⊤
+OfMake (Some (Replay files)) holds = ⊤
 OfMake (Some (Make number)) holds = holds number
+
+-- what holds of the two files, where the command is a replay
+abbrev pub OfReplay : Option Command → (TraceFiles → Type 0) → Type 0
+OfReplay None holds = ⊤
+OfReplay (Some (Run files)) holds = ⊤
+OfReplay (Some (Address topology)) holds = ⊤
+OfReplay (Some (Lease leased)) holds = ⊤
+OfReplay (Some (Registry files)) holds = ⊤
+OfReplay (Some (Record stated)) holds = ⊤
+OfReplay (Some (Replay files)) holds = holds files
+OfReplay (Some (Make number)) holds = ⊤
 
 -- what holds of the texts of the topology and of the records, where they are told
 abbrev pub OfRecords : (List ℕ → Option (List ℕ)) → RecordFiles → (List ℕ → List ℕ → Type 0) → Type 0
 OfRecords text files holds = IfSome (text files.topology) (λ topology. IfSome (text files.records) (holds topology))
+
+-- what holds of the texts of the topology and of the trace, where they are told
+abbrev pub OfTraces : (List ℕ → Option (List ℕ)) → TraceFiles → (List ℕ → List ℕ → Type 0) → Type 0
+OfTraces text files holds = IfSome (text files.topology) (λ topology. IfSome (text files.trace) (holds topology))
 
 -- the words spell a run
 abbrev pub is_run : Option Command → Bool
@@ -197,6 +226,7 @@ is_run (Some (Address topology)) = false
 is_run (Some (Lease leased)) = false
 is_run (Some (Registry files)) = false
 is_run (Some (Record stated)) = false
+is_run (Some (Replay files)) = false
 is_run (Some (Make number)) = false
 
 -- the words spell a lease
@@ -207,6 +237,7 @@ is_lease (Some (Address topology)) = false
 is_lease (Some (Lease leased)) = true
 is_lease (Some (Registry files)) = false
 is_lease (Some (Record stated)) = false
+is_lease (Some (Replay files)) = false
 is_lease (Some (Make number)) = false
 
 -- the words ask for a signed record
@@ -217,6 +248,7 @@ is_record (Some (Address topology)) = false
 is_record (Some (Lease leased)) = false
 is_record (Some (Registry files)) = false
 is_record (Some (Record stated)) = true
+is_record (Some (Replay files)) = false
 is_record (Some (Make number)) = false
 
 -- the words spell a lease or a record, which meet the disk
@@ -227,6 +259,7 @@ is_of_disk (Some (Address topology)) = false
 is_of_disk (Some (Lease leased)) = true
 is_of_disk (Some (Registry files)) = false
 is_of_disk (Some (Record stated)) = true
+is_of_disk (Some (Replay files)) = false
 is_of_disk (Some (Make number)) = false
 
 -- the words ask for the list of records
@@ -237,6 +270,7 @@ is_registry (Some (Address topology)) = false
 is_registry (Some (Lease leased)) = false
 is_registry (Some (Registry files)) = true
 is_registry (Some (Record stated)) = false
+is_registry (Some (Replay files)) = false
 is_registry (Some (Make number)) = false
 
 -- the words spell a run or a made workload, which take the lines of a schedule
@@ -247,6 +281,7 @@ is_scheduled (Some (Address topology)) = false
 is_scheduled (Some (Lease leased)) = false
 is_scheduled (Some (Registry files)) = false
 is_scheduled (Some (Record stated)) = false
+is_scheduled (Some (Replay files)) = false
 is_scheduled (Some (Make number)) = true
 
 -- the words spell a command that names files: each does but that of a made workload
@@ -257,7 +292,19 @@ is_of_files (Some (Address topology)) = true
 is_of_files (Some (Lease leased)) = true
 is_of_files (Some (Registry files)) = true
 is_of_files (Some (Record stated)) = true
+is_of_files (Some (Replay files)) = true
 is_of_files (Some (Make number)) = false
+
+-- the words spell a replay
+abbrev pub is_replay : Option Command → Bool
+is_replay None = false
+is_replay (Some (Run files)) = false
+is_replay (Some (Address topology)) = false
+is_replay (Some (Lease leased)) = false
+is_replay (Some (Registry files)) = false
+is_replay (Some (Record stated)) = false
+is_replay (Some (Replay files)) = true
+is_replay (Some (Make number)) = false
 
 -- the words spell a command
 abbrev pub is_any_command : Option Command → Bool
@@ -281,4 +328,5 @@ IsNamed (Some (Address topology)) name = name ≡ topology
 IsNamed (Some (Lease leased)) name = name ≡ leased.topology
 IsNamed (Some (Registry files)) name = (name ≡ files.topology) ⊎ (name ≡ files.records)
 IsNamed (Some (Record stated)) name = name ≡ stated.topology
+IsNamed (Some (Replay files)) name = (name ≡ files.topology) ⊎ (name ≡ files.trace)
 IsNamed (Some (Make number)) name = ⊥

@@ -57,6 +57,15 @@ pub struct RecordWords<'a> {
     pub said: Statement,
 }
 
+/// The two files that a replay names.
+#[derive(Clone, Copy)]
+pub struct ReplayWords<'a> {
+    /// The file of the topology.
+    pub topology: &'a String,
+    /// The file of the trace.
+    pub trace: &'a String,
+}
+
 /// A command.
 #[derive(Clone, Copy)]
 pub enum Command<'a> {
@@ -70,6 +79,8 @@ pub enum Command<'a> {
     Registry(RegistryWords<'a>),
     /// `record TOPO DOMAIN peer DOMAIN NUMBER UNTIL`, or `bind HOST` in place of `peer DOMAIN`
     Record(RecordWords<'a>),
+    /// `replay TOPO TRACE`
+    Replay(ReplayWords<'a>),
     /// `make N`, with the number of the workload
     Make(u32),
 }
@@ -136,6 +147,11 @@ fn command_of_three<'a>(
         Some(Command::Registry(RegistryWords {
             topology,
             records: third,
+        }))
+    } else if word.as_str() == "replay" {
+        Some(Command::Replay(ReplayWords {
+            topology,
+            trace: third,
         }))
     } else {
         None

@@ -13,6 +13,7 @@ mod command;
 mod issue;
 mod lease;
 mod registry;
+mod replay;
 mod run;
 mod status;
 mod top;

@@ -70,6 +70,11 @@ pub enum Status {
         /// The first fault that applies to it.
         fault: StepFault,
     },
+    /// The file isn't the text of a trace. The whole text was taken.
+    Wrong {
+        /// The number of the first wrong line, from 1; one past the last where the file only stops too early.
+        line: u64,
+    },
     /// The disk failed.
     DiskFault,
     /// There was no memory.
@@ -97,6 +102,7 @@ impl Status {
             Status::WriteFault => 4,
             Status::Topology { .. } => 5,
             Status::Schedule { .. } => 6,
+            Status::Wrong { .. } => 7,
             Status::DiskFault => 8,
             Status::Memory => 9,
             Status::Lease(_) => 10,

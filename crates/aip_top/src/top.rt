@@ -8,14 +8,16 @@ ghost use Rattle.aip_top.specs.Judged.{end_by, Judges};
 ghost use Rattle.aip_top.specs.Leasing.{OfItsKey};
 ghost use Rattle.aip_top.specs.Recording.{KeepsRecords, OfItsDraft};
 ghost use Rattle.aip_top.specs.Statuses.{kind_of};
+ghost use Rattle.aip_top.specs.Verdicts.{ReplayOf};
 ghost use Rattle.aip_top.specs.Workloads.{workload};
-ghost use Rattle.aip_top.specs.Words.{spelled, topology_in, IsNamed, OfAddress, OfLease, OfMake, OfRecord, OfRecords, OfRegistry, OfRun, OfTexts};
+ghost use Rattle.aip_top.specs.Words.{spelled, topology_in, IsNamed, OfAddress, OfLease, OfMake, OfRecord, OfRecords, OfRegistry, OfReplay, OfRun, OfTexts, OfTraces};
 
 use crate::address::address;
 use crate::command::{Command, command_of};
 use crate::issue::issue;
 use crate::lease::lease;
 use crate::registry::registry;
+use crate::replay::replay;
 use crate::run::run;
 use crate::status::Status;
 use crate::workload::make;
@@ -32,8 +34,9 @@ use std::alloc::Global;
 /// the lease file of the domain's key, unless it is a lease file already, and writes the key's identifier and height.
 /// `record TOPO DOMAIN peer DOMAIN NUMBER UNTIL` and `record TOPO DOMAIN bind HOST NUMBER UNTIL` sign a record with the next
 /// leaf of the domain's lease file, once it is gone there, and write it as a line of hex. `registry TOPO RECORDS` writes the
-/// list of the newest of the records, unless a line of their file is refused. `make N` runs workload number N and writes the
-/// summary of its trace.
+/// list of the newest of the records, unless a line of their file is refused. `replay TOPO TRACE` writes `holds`
+/// where the file is the text of a trace over the topology, and else `wrong` and the number of its first wrong line. `make N`
+/// runs workload number N and writes the summary of its trace.
 #[tactic(auto, using(crate::proofs::Promised::justified, crate::proofs::Promised::silent, crate::proofs::Promised::leaf_once))]
 pub fn aip<S: Shelf, K: Sink, D: Disk>(
     alloc: Global,
@@ -83,6 +86,11 @@ pub fn aip<S: Shelf, K: Sink, D: Disk>(
         (Rose (S.faults shelf.old files.topology) (S.faults shelf.new files.topology)
         ⊎ Rose (S.faults shelf.old files.records) (S.faults shelf.new files.records))
         (Rose (K.faults out.old) (K.faults out.new)) result.0 (K.taken out.old) (K.taken out.new))) }
+    ensures replay { OfReplay (spelled words.now) (λ files. OfTraces (S.text shelf.old) files (λ topology trace.
+        ReplayOf topology trace
+        (Rose (S.faults shelf.old files.topology) (S.faults shelf.new files.topology)
+        ⊎ Rose (S.faults shelf.old files.trace) (S.faults shelf.new files.trace))
+        (Rose (K.faults out.old) (K.faults out.new)) result.0 (K.taken out.old) (K.taken out.new))) }
     ensures lease { OfLease (spelled words.now) (λ leased. OfItsKey (S.text shelf.old) leased (λ key.
         LeaseOf D.now D.may_leave D.clock D.during key
         (Rose (S.faults shelf.old leased.topology) (S.faults shelf.new leased.topology))
@@ -129,6 +137,11 @@ pub fn aip<S: Shelf, K: Sink, D: Disk>(
         Some(Command::Record(words)) => {
             let topology = words.topology.as_str();
             let (status, disk) = issue(alloc, shelf, topology, &words.said, out, disk);
+            (status, disk, None)
+        }
+        Some(Command::Replay(words)) => {
+            let topology = words.topology.as_str();
+            let status = replay(alloc, shelf, topology, words.trace.as_str(), out);
             (status, disk, None)
         }
         Some(Command::Make(number)) => (make(alloc, number, out), disk, None),

@@ -1,6 +1,6 @@
-use Rattle.aip_top.specs.Words.{spelled, Record}
+use Rattle.aip_top.specs.Words.{spelled, Lease, Record}
 use Rattle.std.proofs.Common.{refl, sym}
-use Rattle.aip_top.specs.Named.{stated_of}
+use Rattle.aip_top.specs.Named.{leased_of, stated_of}
 use Rattle.aip_top.proofs.Promised.{justified, silent, leaf_once, judged}
 use Rattle.aip_top.proofs.top.aip.Goals as goal
 
@@ -19,3 +19,10 @@ returns-in-Some-Record-clause-topology g c =
     judged (spelled c.args.words.now) (Record (stated_of c.in-Some-Record.words)) c.as_str-topology-in-Some-Record.result.now _ (g.S.Shelf.text c.args.shelf.now)
     (g.S.Shelf.faults c.args.shelf.now) (g.S.Shelf.faults ended.new.shelf) _ _
     c.as_str-topology-in-Some-Record.ensures.value refl (sym (rw c.in-Some-Record.field-0-is at c.in-Some-Record.ensures)) ended.ensures.judged
+
+pub returns-in-Some-Lease-clause-topology : goal.returns-in-Some-Lease-clause-topology
+returns-in-Some-Lease-clause-topology g c =
+    let ended = c.lease-status in
+    judged (spelled c.args.words.now) (Lease (leased_of c.in-Some-Lease.words)) c.as_str-topology-in-Some-Lease.result.now _ (g.S.Shelf.text c.args.shelf.now)
+    (g.S.Shelf.faults c.args.shelf.now) (g.S.Shelf.faults ended.new.shelf) _ _
+    c.as_str-topology-in-Some-Lease.ensures.value refl (sym (rw c.in-Some-Lease.field-0-is at c.in-Some-Lease.ensures)) ended.ensures.judged
