@@ -11,7 +11,7 @@ use Rattle.aip_rules.specs.Texts.{Ran, by_step}
 use Rattle.aip_core.specs.Answers.{IsRefusal}
 use Rattle.aip_core.specs.Kept.{Kept}
 use Rattle.aip_core.specs.StandsFor.{IsStep, StandsFor}
-use Rattle.aip_core.specs.declared.engine.StepEnd.TheVariants as step_end
+use Rattle.aip_core.specs.declared.ends.StepEnd.TheVariants as step_end
 use Rattle.aip_make.specs.declared.ends.MadeEnd.TheVariants as made_end
 use Rattle.aip_make.specs.declared.lines.Course.{Course}
 use Rattle.aip_make.specs.Ends.{IsAnswer, answer_to}

@@ -12,7 +12,7 @@ use Rattle.aip_topo.specs.declared.topology.Topology.{Topology}
 use Rattle.aip_rules.specs.declared.StepFault.{StepFault}
 use Rattle.aip_core.specs.Answers.{IsRefusal}
 use Rattle.aip_core.specs.Kept.{Kept}
-use Rattle.aip_core.specs.declared.engine.StepEnd.TheVariants.{Refused}
+use Rattle.aip_core.specs.declared.ends.StepEnd.TheVariants.{Refused}
 use Rattle.aip_replay.specs.Answers.{IsFirstWrong}
 use Rattle.aip_replay.specs.Lines.{IsReadOn}
 use Rattle.aip_replay.specs.Marks.{event_mark}
