@@ -33,11 +33,9 @@ pub struct Count {
     pub until: [u64; 3],
 }
 
-/// What was counted of all, and how often a host signed, was stopped, was halted and told what it kept.
+/// How often something happened.
 #[derive(Clone, Copy)]
-pub struct Counts {
-    /// The hosts.
-    pub hosts: [Count; 3],
+pub struct Totals {
     /// How many leaves signed.
     pub signed: u64,
     /// How many stops fell.
@@ -48,6 +46,15 @@ pub struct Counts {
     pub kept: u64,
 }
 
+/// What was counted of all.
+#[derive(Clone, Copy)]
+pub struct Counts {
+    /// The hosts.
+    pub hosts: [Count; 3],
+    /// What happened at all of them.
+    pub totals: Totals,
+}
+
 /// A shut-off that a host tells after its restart.
 #[derive(Clone, Copy, PartialEq)]
 pub struct Told {
@@ -55,6 +62,28 @@ pub struct Told {
     pub sender: usize,
     /// Until when it is in force.
     pub until: u64,
+}
+
+impl Totals {
+    /// Nothing happened yet.
+    pub fn new() -> Totals {
+        Totals {
+            signed: 0,
+            stopped: 0,
+            halted: 0,
+            kept: 0,
+        }
+    }
+
+    /// These and others.
+    pub fn and(&self, others: &Totals) -> Totals {
+        Totals {
+            signed: self.signed.saturating_add(others.signed),
+            stopped: self.stopped.saturating_add(others.stopped),
+            halted: self.halted.saturating_add(others.halted),
+            kept: self.kept.saturating_add(others.kept),
+        }
+    }
 }
 
 impl Counts {
@@ -69,10 +98,7 @@ impl Counts {
         };
         Counts {
             hosts: [host; 3],
-            signed: 0,
-            stopped: 0,
-            halted: 0,
-            kept: 0,
+            totals: Totals::new(),
         }
     }
 }
@@ -141,7 +167,8 @@ fn obeys(host: &mut Count, sender: usize, until: u64) -> bool
     true
 }
 
-// The halt that is armed falls: the shut-off is kept where its last byte but the sync is the one that opens its slot.
+// The halt that is armed falls. The shut-off is kept where the byte that opens its slot was left by the call that writes that
+// byte or the one that makes it firm.
 fn halts(host: &mut Count, sender: usize, until: u64, at: (u64, u64)) -> bool
     requires { sender < 3 }
 {
@@ -214,7 +241,7 @@ impl Counts {
         let Some(place) = place_of(name) else {
             return false;
         };
-        self.signed = self.signed.saturating_add(1);
+        self.totals.signed = self.totals.signed.saturating_add(1);
         signs(&mut self.hosts[place], leaf)
     }
 
@@ -222,7 +249,7 @@ impl Counts {
         let Some(place) = place_of(name) else {
             return false;
         };
-        self.stopped = self.stopped.saturating_add(1);
+        self.totals.stopped = self.totals.stopped.saturating_add(1);
         stops(&mut self.hosts[place], leaf, at)
     }
 
@@ -230,7 +257,7 @@ impl Counts {
         let (Some(place), Some(sender)) = (place_of(name), sender_of(key)) else {
             return false;
         };
-        self.halted = self.halted.saturating_add(1);
+        self.totals.halted = self.totals.halted.saturating_add(1);
         halts(&mut self.hosts[place], sender, until, at)
     }
 

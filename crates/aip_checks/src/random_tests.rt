@@ -2,7 +2,7 @@
 ghost use Rattle.std.specs.Prelude.{◌≡◌, ◌<◌, ◌≤◌, IfOk};
 ghost use Rattle.aip_topo.specs.Sound.{IsSound};
 
-use crate::count::{Counts, NAMES, Told, in_force, place_of, sender_of};
+use crate::count::{Counts, NAMES, Told, Totals, in_force, place_of, sender_of};
 use aip_addr::{Bytes, Name};
 use aip_core::Core;
 use aip_event::{Event, Events, Input};
@@ -198,7 +198,8 @@ fn restart(alloc: Global, core: Core, draws: &mut Draws) -> Result<Core, Fail> {
         return Err(Fail::from("what is kept, as it is counted"));
     }
     draws.counts.rise(at);
-    draws.counts.kept = draws.counts.kept.saturating_add(told.len() as u64);
+    let totals = &mut draws.counts.totals;
+    totals.kept = totals.kept.saturating_add(told.len() as u64);
     Ok(core)
 }
 
@@ -221,8 +222,8 @@ fn turn(alloc: Global, core: Core, draws: &mut Draws) -> Result<Core, Fail> {
     }
 }
 
-// Runs the schedule of a seed, of so many turns, and gives what was counted.
-fn run(alloc: Global, seed: u64, turns: u32) -> Result<Counts, Fail> {
+// Runs the schedule of a seed, of so many turns, and gives what happened.
+fn run(alloc: Global, seed: u64, turns: u32) -> Result<Totals, Fail> {
     let mut draws = Draws {
         rng: Xoshiro256PlusPlus::seed_from_u64(seed),
         counts: Counts::new(),
@@ -232,32 +233,51 @@ fn run(alloc: Global, seed: u64, turns: u32) -> Result<Counts, Fail> {
     for _ in 0..turns {
         core = turn(alloc, core, &mut draws)?;
     }
-    Ok(draws.counts)
+    Ok(draws.counts.totals)
 }
 
-// In each schedule something is signed, and in all of them stops and halts fall and shut-offs are kept.
-fn agree(alloc: Global, first: u64, past: u64) -> Result<bool, Fail> {
-    let (mut stopped, mut halted, mut kept) = (false, false, false);
+// Runs the schedules of the seeds from one on and below another, and gives what happened in all.
+fn run_all(alloc: Global, first: u64, past: u64) -> Result<Totals, Fail> {
+    let mut totals = Totals::new();
     for seed in first..past {
-        let counts = run(alloc, seed, 80)?;
-        if counts.signed == 0 {
-            return Ok(false);
-        }
-        stopped |= counts.stopped > 0;
-        halted |= counts.halted > 0;
-        kept |= counts.kept > 0;
+        totals = totals.and(&run(alloc, seed, 80)?);
     }
-    Ok(stopped && halted && kept)
+    Ok(totals)
+}
+
+// Whether there are as many signatures as schedules, and half as many stops, halts and shut-offs that are kept.
+fn is_much(totals: &Totals, schedules: u64) -> bool {
+    let half = schedules / 2;
+    totals.signed >= schedules
+        && totals.stopped >= half
+        && totals.halted >= half
+        && totals.kept >= half
 }
 
 #[test]
 fn schedules_0_to_29_are_as_they_are_counted(rt: HostRuntime) -> Result<(), Fail> {
-    assert!(rt; agree(rt.alloc(), 0, 30)?);
+    let totals = run_all(rt.alloc(), 0, 30)?;
+    assert!(rt;
+        is_much(&totals, 30),
+        "{} {} {} {}",
+        totals.signed,
+        totals.stopped,
+        totals.halted,
+        totals.kept
+    );
     Ok(())
 }
 
 #[test]
 fn schedules_30_to_59_are_as_they_are_counted(rt: HostRuntime) -> Result<(), Fail> {
-    assert!(rt; agree(rt.alloc(), 30, 60)?);
+    let totals = run_all(rt.alloc(), 30, 60)?;
+    assert!(rt;
+        is_much(&totals, 30),
+        "{} {} {} {}",
+        totals.signed,
+        totals.stopped,
+        totals.halted,
+        totals.kept
+    );
     Ok(())
 }
