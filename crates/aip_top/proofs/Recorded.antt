@@ -6,7 +6,7 @@ use Rattle.lms_core.specs.Tree.{Key}
 use Rattle.lease_disk.specs.Images.{AtEachMoment}
 use Rattle.lease_disk.specs.Kept.{AfterWrite, torn_same}
 use Rattle.lease_disk.specs.Moments.{at_start}
-use Rattle.leaf_lease.specs.LeaseFile.{head_size}
+use Rattle.leaf_lease.specs.LeaseFile.{IsGone, head_size}
 use Rattle.aip_registry.specs.declared.records.Record.{Record}
 use Rattle.record_signer.specs.declared.faults.SigningFault.{SigningFault}
 use Rattle.record_signer.specs.declared.faults.SigningFault.TheVariants as signing
@@ -16,6 +16,7 @@ use Rattle.aip_top.specs.declared.status.Status.TheVariants as status
 use Rattle.aip_top.specs.declared.issue.Draft.{Draft}
 use Rattle.aip_top.specs.Commands.{RecordDone, RecordOf}
 use Rattle.aip_top.specs.Draft.{IsDrafted}
+use Rattle.aip_top.specs.Leasing.{IsBeforeDisk}
 use Rattle.aip_top.specs.Judged.{IsEarly, IsOrMemory, IsUnread}
 use Rattle.aip_top.specs.Recording.{Drafted, Denied, Drafts, HasWritten, IsFault, IsRefusedByFile, KeepsRecords, OfDraft, denial_in, record_end, status_unsigned}
 use Rattle.aip_top.specs.Written.{WritesOnDone}
@@ -64,6 +65,11 @@ refusal_of signing.Memory is = absurd is
 not_refused : (end : Status) → (end ≡ status.WriteFault) ⊎ (end ≡ status.Done) → IsRefusedByFile end → ⊥
 not_refused end (inl is) refused = subst IsRefusedByFile is refused
 not_refused end (inr is) refused = subst IsRefusedByFile is refused
+
+-- what comes before the disk is met writes nothing
+unwritten_early : (end : Status) → IsBeforeDisk end → HasWritten end → ⊥
+unwritten_early end early (inl is) = subst IsBeforeDisk is early
+unwritten_early end early (inr is) = subst IsBeforeDisk is early
 
 -- ## Over a disk
 
@@ -137,13 +143,13 @@ module _ {D : Type 0} (content : D → Option (List ℕ)) (may_leave : D → Lis
   looked_same : ((disk : D) (image : List ℕ) → during disk (clock disk) image → may_leave disk image) → (disk : D) → AtEachMoment clock during disk disk (may_leave disk)
   looked_same only disk = at_start may_leave clock during disk (may_leave disk) (only disk) (λ image left. left)
 
-  pub keeps_same : ((disk : D) (image : List ℕ) → during disk (clock disk) image → may_leave disk image) → (end : Status) (disk : D) → KeepsRecords may_leave clock during end disk disk
-  keeps_same only end disk = record { leaf = 0; looks = λ refused. looked_same only disk; spares = spares_same only 0 disk; gone = λ l all image left. all image left }
+  pub keeps_same : ((disk : D) (image : List ℕ) → during disk (clock disk) image → may_leave disk image) → (end : Status) (disk : D) → IsBeforeDisk end → KeepsRecords may_leave clock during end disk disk
+  keeps_same only end disk early = record { leaf = 0; taken = λ was. absurd (unwritten_early end early was); looks = λ refused. looked_same only disk; spares = spares_same only 0 disk; gone = λ l all image left. all image left }
 
   -- a leaf that stays gone at each moment is gone in the disk that comes back
   pub keeps_done : ((disk : D) (t : ℕ) (image : List ℕ) → t ≤ clock disk → may_leave disk image → during disk t image) → (leaf : ℕ) (end : Status) (disk after : D) → SparesBut may_leave clock during leaf disk after
-      → (IsRefusedByFile end → AtEachMoment clock during disk after (may_leave disk)) → KeepsRecords may_leave clock during end disk after
-  keeps_done counts leaf end disk after spares looks = record { leaf = leaf; looks = looks; spares = spares; gone = λ l all image left. spares.gone l all image (counts after (clock disk) image spares.moments.later left) }
+      → (HasWritten end → (image : List ℕ) → may_leave after image → IsGone leaf image) → (IsRefusedByFile end → AtEachMoment clock during disk after (may_leave disk)) → KeepsRecords may_leave clock during end disk after
+  keeps_done counts leaf end disk after spares taken looks = record { leaf = leaf; taken = taken; looks = looks; spares = spares; gone = λ l all image left. spares.gone l all image (counts after (clock disk) image spares.moments.later left) }
 
   -- a record that ends before the disk is met leaves it as it was
   pub before_disk : ((disk : D) (image : List ℕ) → during disk (clock disk) image → may_leave disk image) → (t : Option (List ℕ)) (drafted : List ℕ → Drafted) (unread unwritten failed : Type 0) (end : Status) (disk : D) (old : Option (List ℕ))

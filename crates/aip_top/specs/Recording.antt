@@ -4,6 +4,7 @@ use Rattle.std.specs.Str.{bytes_eq}
 use Rattle.lms_core.specs.Tree.{Key}
 use Rattle.lease_disk.specs.Images.{AtEachMoment}
 use Rattle.leaf_lease.specs.Kept.{KeepsGone}
+use Rattle.leaf_lease.specs.LeaseFile.{IsGone}
 use Rattle.aip_addr.specs.declared.ids.Id.{Id}
 use Rattle.aip_topo.specs.declared.topology.Domain.{Domain}
 use Rattle.aip_topo.specs.declared.topology.Key as topo
@@ -123,9 +124,11 @@ IsFault end = (end ≡ status.ReadFault) ⊎ ((end ≡ status.WriteFault) ⊎ ((
 
 -- What a record leaves of a disk, whatever the answer: but for the byte of one leaf each image of each moment is as it was
 -- at the start, no leaf that was gone is free again, at any moment and in the disk that comes back, no image grows, and the
--- clock rises by at most 3. Where the lease file refuses the record, that leaf's byte too is as it was.
+-- clock rises by at most 3. Where the line was to be written that leaf is gone in every image of the disk that comes back;
+-- where the lease file refuses the record, that leaf's byte too is as it was.
 pub record KeepsRecords {D : Type 0} (may_leave : D → List ℕ → Type 0) (clock : D → ℕ) (during : D → ℕ → List ℕ → Type 0) (end : Status) (old new : D) : Type 0 where
   pub leaf : ℕ
+  pub taken : HasWritten end → (image : List ℕ) → may_leave new image → IsGone leaf image
   pub looks : IsRefusedByFile end → AtEachMoment clock during old new (may_leave old)
   pub spares : SparesBut may_leave clock during leaf old new
   pub gone : KeepsGone (may_leave old) (may_leave new)

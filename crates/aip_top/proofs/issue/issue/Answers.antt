@@ -15,4 +15,4 @@ returns-in-Err-clause-told g c =
     (λ is. let rose = c.in-Err.ensures.counts.rose (cc) in subst (λ name. Rose (old name) (new name)) rose.1.0 rose.1.1)
 
 pub returns-in-Err-clause-keeps : goal.returns-in-Err-clause-keeps
-returns-in-Err-clause-keeps g c = keeps_same g.D.Disk.now g.D.Disk.may_leave g.D.Disk.clock g.D.Disk.during g.met.D.Disk.only_now c.in-Err.end c.args.disk
+returns-in-Err-clause-keeps g c = keeps_same g.D.Disk.now g.D.Disk.may_leave g.D.Disk.clock g.D.Disk.during g.met.D.Disk.only_now c.in-Err.end c.args.disk c.in-Err.ensures.early
