@@ -8,9 +8,9 @@ use Rattle.aip_sim.specs.declared.topologies.TopologyEnd.{TopologyEnd}
 use Rattle.aip_sim.specs.declared.topologies.TopologyEnd.TheVariants as topology_end
 use Rattle.aip_records.specs.declared.faults.RecordsEnd.{RecordsEnd}
 use Rattle.aip_records.specs.declared.faults.RecordsEnd.TheVariants as records_end
+use Rattle.aip_top.specs.Words.{Command, is_run, is_lease, is_registry, is_record, is_replay, is_of_disk, is_no_command, is_any_command, is_never, is_scheduled, is_of_files}
 use Rattle.aip_make.specs.declared.ends.MadeEnd.{MadeEnd}
 use Rattle.aip_make.specs.declared.ends.MadeEnd.TheVariants as made_end
-use Rattle.aip_top.specs.Words.{Command, is_run, is_lease, is_registry, is_record, is_replay, is_of_disk, is_scheduled, is_of_files, is_no_command, is_any_command, is_never}
 use Rattle.aip_top.specs.declared.status.Status.{Status}
 use Rattle.aip_top.specs.declared.status.Status.TheVariants as status
 use Rattle.aip_top.specs.declared.status.LeaseFault.TheVariants as fault

@@ -188,17 +188,6 @@ OfRecord (Some (Record stated)) holds = holds stated
 OfRecord (Some (Replay files)) holds = ⊤
 OfRecord (Some (Make number)) holds = ⊤
 
--- what holds of the number of a workload, where the command makes one
-abbrev pub OfMake : Option Command → (ℕ → Type 0) → Type 0
-OfMake None holds = ⊤
-OfMake (Some (Run files)) holds = ⊤
-OfMake (Some (Address topology)) holds = ⊤
-OfMake (Some (Lease leased)) holds = ⊤
-OfMake (Some (Registry files)) holds = ⊤
-OfMake (Some (Record stated)) holds = ⊤
-OfMake (Some (Replay files)) holds = ⊤
-OfMake (Some (Make number)) holds = holds number
-
 -- what holds of the two files, where the command is a replay
 abbrev pub OfReplay : Option Command → (TraceFiles → Type 0) → Type 0
 OfReplay None holds = ⊤
@@ -209,6 +198,17 @@ OfReplay (Some (Registry files)) holds = ⊤
 OfReplay (Some (Record stated)) holds = ⊤
 OfReplay (Some (Replay files)) holds = holds files
 OfReplay (Some (Make number)) holds = ⊤
+
+-- what holds of the number of a workload, where the command makes one
+abbrev pub OfMake : Option Command → (ℕ → Type 0) → Type 0
+OfMake None holds = ⊤
+OfMake (Some (Run files)) holds = ⊤
+OfMake (Some (Address topology)) holds = ⊤
+OfMake (Some (Lease leased)) holds = ⊤
+OfMake (Some (Registry files)) holds = ⊤
+OfMake (Some (Record stated)) holds = ⊤
+OfMake (Some (Replay files)) holds = ⊤
+OfMake (Some (Make number)) holds = holds number
 
 -- what holds of the texts of the topology and of the records, where they are told
 abbrev pub OfRecords : (List ℕ → Option (List ℕ)) → RecordFiles → (List ℕ → List ℕ → Type 0) → Type 0
@@ -273,6 +273,17 @@ is_registry (Some (Record stated)) = false
 is_registry (Some (Replay files)) = false
 is_registry (Some (Make number)) = false
 
+-- the words spell a replay
+abbrev pub is_replay : Option Command → Bool
+is_replay None = false
+is_replay (Some (Run files)) = false
+is_replay (Some (Address topology)) = false
+is_replay (Some (Lease leased)) = false
+is_replay (Some (Registry files)) = false
+is_replay (Some (Record stated)) = false
+is_replay (Some (Replay files)) = true
+is_replay (Some (Make number)) = false
+
 -- the words spell a run or a made workload, which take the lines of a schedule
 abbrev pub is_scheduled : Option Command → Bool
 is_scheduled None = false
@@ -294,17 +305,6 @@ is_of_files (Some (Registry files)) = true
 is_of_files (Some (Record stated)) = true
 is_of_files (Some (Replay files)) = true
 is_of_files (Some (Make number)) = false
-
--- the words spell a replay
-abbrev pub is_replay : Option Command → Bool
-is_replay None = false
-is_replay (Some (Run files)) = false
-is_replay (Some (Address topology)) = false
-is_replay (Some (Lease leased)) = false
-is_replay (Some (Registry files)) = false
-is_replay (Some (Record stated)) = false
-is_replay (Some (Replay files)) = true
-is_replay (Some (Make number)) = false
 
 -- the words spell a command
 abbrev pub is_any_command : Option Command → Bool

@@ -50,6 +50,7 @@ IsSummed expected (Err end) = (end ≡ status.Memory) ⊎ (expected ≡ Err end)
 abbrev pub IsMadeEnd : Status → Type 0
 IsMadeEnd (status.Topology line f) = ⊤
 IsMadeEnd (status.Schedule line f) = ⊤
+IsMadeEnd (status.Wrong line) = ⊥
 IsMadeEnd status.Memory = ⊤
 IsMadeEnd status.Done = ⊥
 IsMadeEnd status.Usage = ⊥
