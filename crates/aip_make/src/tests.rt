@@ -38,7 +38,10 @@ fn no_lines_have_the_empty_trace(rt: HostRuntime) -> Result<(), Fail> {
 fn a_made_workload_is_the_same_twice(rt: HostRuntime) -> Result<(), Fail> {
     let text = made(rt.alloc(), 1, 0)?.text(rt.alloc())?;
     assert_eq!(rt; text.as_slice(), EMPTY);
-    assert_eq!(rt; made(rt.alloc(), 1, 2000), made(rt.alloc(), 1, 2000));
+    let first = made(rt.alloc(), 1, 2000)?.text(rt.alloc())?;
+    let second = made(rt.alloc(), 1, 2000)?.text(rt.alloc())?;
+    assert_eq!(rt; first.as_slice(), second.as_slice());
+    assert!(rt; first.as_slice().starts_with(b"lines 2000\n"));
     Ok(())
 }
 

@@ -87,6 +87,7 @@ module _ {D : Type 0} (content : D → Option (List ℕ)) (may_leave : D → Lis
     ];
     signed = λ was file is. sym (gives file is) ∙ ap Ok signs.line;
     gone = λ was. signs.gone;
+    reads = λ was. signs.reads;
     writes = subst (λ text. WritesOnDone text end old new) signs.line writes;
     looks = λ refused. absurd (not_refused end put refused);
     spared = signs.spared;
@@ -110,6 +111,7 @@ module _ {D : Type 0} (content : D → Option (List ℕ)) (may_leave : D → Lis
     answer = λ file here. subst (λ e. IsFault e ⊎ (e ≡ record_end (signed_by key r file))) (sym is) (unsigned (signed_by key r file) f (told file here));
     signed = λ was. absurd (unwritten f (subst HasWritten is was));
     gone = λ was. absurd (unwritten f (subst HasWritten is was));
+    reads = λ was. absurd (unwritten f (subst HasWritten is was));
     writes = record { whole = λ done. absurd (unwritten f (subst HasWritten is (inl done))); part = took_nothing old (signed_line key signs.leaf r) };
     looks = λ refused. signs.looks (refusal_of f (subst IsRefusedByFile is refused));
     spared = signs.spared;
@@ -175,6 +177,7 @@ module _ {D : Type 0} (content : D → Option (List ℕ)) (may_leave : D → Lis
         answer = λ file is. inl (is_fault end unread);
         signed = λ was. absurd (not_written end unread was);
         gone = λ was. absurd (not_written end unread was);
+        reads = λ was. absurd (not_written end unread was);
         writes = record { whole = λ done. absurd (not_written end unread (inl done)); part = took_nothing old (signed_line key (leaf_of key (content disk)) r) };
         looks = λ refused. looked_same only disk;
         spared = λ file is refused. looked_same only disk;

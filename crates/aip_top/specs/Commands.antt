@@ -6,7 +6,7 @@ use Rattle.lms_core.specs.Parameters.{levels_of}
 use Rattle.lease_disk.specs.Images.{AtEachMoment, OnlyLooks}
 use Rattle.leaf_lease.specs.LeaseFile.{IsGone}
 use Rattle.aip_registry.specs.declared.records.Record.{Record}
-use Rattle.record_signer.specs.Signed.{SparesBut, is_refusal, next_leaf, signed_by, signed_line}
+use Rattle.record_signer.specs.Signed.{SparesBut, is_refusal, next_leaf, signed_by, signed_line, spent}
 use Rattle.aip_rules.specs.Texts.{end_of, output_of}
 use Rattle.aip_core.specs.Kept.{Kept}
 use Rattle.aip_sim.specs.Runs.{StandsForRun}
@@ -53,7 +53,7 @@ pub record KeepsLeases {D : Type 0} (content : D → Option (List ℕ)) (may_lea
   pub keeps : KeepsOpen may_leave clock during disk after
 
 -- `record` of a key, once the disk is met: by one leaf, which is the next where the file is told. Where the line was to be
--- written the file gives just that line, the leaf is gone in every image that a crash may leave, and a first part of the
+-- written the file gives just that line, the leaf is gone in every image that a crash may leave and reads 1, and a first part of the
 -- line was taken, all of it on Done; on every other answer nothing was taken. An answer that is no fault is the one that
 -- the file gives. But for the leaf's byte the disk stays as it was; and where the file refuses the record, that byte too.
 pub record RecordDone {D : Type 0} (content : D → Option (List ℕ)) (may_leave : D → List ℕ → Type 0) (clock : D → ℕ) (during : D → ℕ → List ℕ → Type 0) (key : Key) (r : Record) (end : Status) (disk after : D) (old new : Option (List ℕ)) : Type 0 where
@@ -62,6 +62,7 @@ pub record RecordDone {D : Type 0} (content : D → Option (List ℕ)) (may_leav
   pub answer : ForSome (content disk) (λ file. IsFault end ⊎ (end ≡ record_end (signed_by key r file)))
   pub signed : HasWritten end → ForSome (content disk) (λ file. signed_by key r file ≡ Ok (signed_line key leaf r))
   pub gone : HasWritten end → (image : List ℕ) → may_leave after image → IsGone leaf image
+  pub reads : HasWritten end → content after ≡ spent leaf (content disk)
   pub writes : WritesOnDone (signed_line key leaf r) end old new
   pub looks : IsRefusedByFile end → AtEachMoment clock during disk after (may_leave disk)
   pub spared : ForSome (content disk) (λ file. is_refusal (signed_by key r file) ≡ true → AtEachMoment clock during disk after (may_leave disk))

@@ -51,3 +51,9 @@ pub record ReplayOf (topology file : List ℕ) (unread unwritten : Type 0) (end 
   pub right : Answers topology file verdict
   pub writes : Writes (status_of_replay verdict) (replay_text verdict) end old new
   pub complete : (unread → ⊥) → (unwritten → ⊥) → (verdict ≢ replay_end.ReadFault) × IsOrMemory (status_of_replay verdict) end
+
+-- Told or not, what a replay writes goes by its status: it is the line of a verdict whose status is the answer, or a first part
+-- of one where a fault or want of memory ends it.
+pub record TellsVerdict (end : Status) (old new : Option (List ℕ)) : Type 0 where
+  pub verdict : ReplayEnd
+  pub writes : Writes (status_of_replay verdict) (replay_text verdict) end old new

@@ -4,7 +4,7 @@ ghost use Rattle.aip_io.specs.Causes.{Rose};
 ghost use Rattle.aip_sim.specs.Causes.{HasCause, ReadsOnly};
 ghost use Rattle.aip_top.specs.Judged.{Judges, refusal_of};
 ghost use Rattle.aip_top.specs.Statuses.{kind_of};
-ghost use Rattle.aip_top.specs.Verdicts.{ReplayOf, is_verdict, replay_text, status_of_replay, wrong_text};
+ghost use Rattle.aip_top.specs.Verdicts.{ReplayOf, TellsVerdict, is_verdict, replay_text, status_of_replay, wrong_text};
 ghost use Rattle.aip_top.specs.Words.{IsNamed, Replay, TraceFiles};
 ghost use Rattle.aip_top.specs.Written.{Writes};
 
@@ -83,6 +83,7 @@ pub fn replay<S: Shelf, K: Sink>(
         (Rose (S.faults shelf.old topology.now) (S.faults shelf.new topology.now)
         ⊎ Rose (S.faults shelf.old trace.now) (S.faults shelf.new trace.now))
         (Rose (K.faults out.old) (K.faults out.new)) result (K.taken out.old) (K.taken out.new))) }
+    ensures tells { TellsVerdict result (K.taken out.old) (K.taken out.new) }
     ensures judged { IfSome (S.text shelf.old topology.now) (λ told. Judges (refusal_of told)
         (Rose (S.faults shelf.old topology.now) (S.faults shelf.new topology.now)) (out.new ≡ out.old) result) }
     ensures belongs { (kind_of result).answers (Some (Replay (record { topology = topology.now; trace = trace.now }))) ≡ true }

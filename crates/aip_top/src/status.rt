@@ -12,7 +12,7 @@ use record_signer::SigningFault;
 /// Why a lease or a record is refused.
 #[derive(Clone, Copy, Debug, PartialEq, Eq)]
 pub enum LeaseFault {
-    /// The topology has no domain of that name.
+    /// The topology has no domain of that name; or, of a record, no domain or host of the name that it is about.
     Unknown,
     /// The domain was given by its id, so its key isn't known.
     Keyless,

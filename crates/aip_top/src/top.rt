@@ -8,7 +8,7 @@ ghost use Rattle.aip_top.specs.Judged.{end_by, Judges};
 ghost use Rattle.aip_top.specs.Leasing.{OfItsKey};
 ghost use Rattle.aip_top.specs.Recording.{KeepsRecords, OfItsDraft};
 ghost use Rattle.aip_top.specs.Statuses.{kind_of};
-ghost use Rattle.aip_top.specs.Verdicts.{ReplayOf};
+ghost use Rattle.aip_top.specs.Verdicts.{ReplayOf, TellsVerdict};
 ghost use Rattle.aip_top.specs.Workloads.{workload};
 ghost use Rattle.aip_top.specs.Words.{spelled, topology_in, IsNamed, OfAddress, OfLease, OfMake, OfRecord, OfRecords, OfRegistry, OfReplay, OfRun, OfTexts, OfTraces};
 
@@ -91,6 +91,7 @@ pub fn aip<S: Shelf, K: Sink, D: Disk>(
         (Rose (S.faults shelf.old files.topology) (S.faults shelf.new files.topology)
         ⊎ Rose (S.faults shelf.old files.trace) (S.faults shelf.new files.trace))
         (Rose (K.faults out.old) (K.faults out.new)) result.0 (K.taken out.old) (K.taken out.new))) }
+    ensures verdict { OfReplay (spelled words.now) (λ files. TellsVerdict result.0 (K.taken out.old) (K.taken out.new)) }
     ensures lease { OfLease (spelled words.now) (λ leased. OfItsKey (S.text shelf.old) leased (λ key.
         LeaseOf D.now D.may_leave D.clock D.during key
         (Rose (S.faults shelf.old leased.topology) (S.faults shelf.new leased.topology))

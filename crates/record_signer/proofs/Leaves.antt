@@ -14,7 +14,7 @@ use Rattle.leaf_lease.specs.LeaseFile.{HasKey, IsFirstFree, IsGone, IsLeaseFile,
 use Rattle.aip_registry.specs.declared.records.Record.{Record}
 use Rattle.record_signer.specs.declared.faults.SigningFault.{SigningFault}
 use Rattle.record_signer.specs.declared.faults.SigningFault.TheVariants as fault
-use Rattle.record_signer.specs.Signed.{IsOrCut, IsSigningFault, Signs, is_refusal, leaf_of, SparesBut, has_key, next_below, next_leaf, signed_at, signed_by, signed_line}
+use Rattle.record_signer.specs.Signed.{IsOrCut, IsSigningFault, Signs, is_refusal, leaf_of, SparesBut, has_key, next_below, next_leaf, signed_at, signed_by, signed_line, spent}
 
 -- ## The next leaf of a file
 
@@ -255,6 +255,7 @@ module _ {D : Type 0} (content : D → Option (List ℕ)) (may_leave : D → Lis
     next = λ file told. ap (leaf_of key) told;
     line = tt;
     gone = tt;
+    reads = tt;
     looks = λ is. moments;
     spared = λ file told is. moments;
     spares = spares;
@@ -277,15 +278,16 @@ module _ {D : Type 0} (content : D → Option (List ℕ)) (may_leave : D → Lis
       → AtEachMoment clock during old mid (may_leave old) → KeepsGone (may_leave old) (during mid (clock old))
       → ((at : ℕ) → KeepsByte at (may_leave old) (during mid (clock old))) → NoLongerThan 0 (may_leave old) (during mid (clock old)) → clock mid ≤ clock old + 1
       → leaf ≤ leaves_of opened.height
-      → IfOk result (λ line. line ≡ signed_line opened leaf r) → OnOk result ((image : List ℕ) → may_leave new image → IsGone leaf image) → (leaf ≡ leaves_of opened.height → new ≡ mid)
+      → IfOk result (λ line. line ≡ signed_line opened leaf r) → OnOk result ((image : List ℕ) → may_leave new image → IsGone leaf image) → OnOk result (content new ≡ spent leaf (content mid)) → (leaf ≡ leaves_of opened.height → new ≡ mid)
       → IfErr result (IsSigningFault opened leaf)
       → AtEachMoment clock during mid new (AfterWrite (may_leave mid) (head_size + leaf) 1) → clock new ≤ clock mid + 2
       → Signs content may_leave clock during key r old new result
-  signed_signs is_image key opened r old mid new leaf result same says still firm moments gone bytes lengths first within line taken dry why wrote second = record {
+  signed_signs is_image key opened r old mid new leaf result same says still firm moments gone bytes lengths first within line taken reads dry why wrote second = record {
     leaf = leaf;
     next = λ file told. sym (next_is key file leaf (says file told).first_free);
     line = subst (λ (k : Key). IfOk result (λ line. line ≡ signed_line k leaf r)) same line;
     gone = taken;
+    reads = subst (λ file. OnOk result (content new ≡ spent leaf file)) still reads;
     looks = λ is. unmet (refused_at_end opened leaf result why is);
     spared = λ file told is. unmet (none_left key r file leaf (says file told) is ∙ ap (λ (k : Key). leaves_of k.height) (sym same));
     spares = signed_spares may_leave clock during (levels_of key.height) leaf old mid new (subst (λ (k : Key). leaf ≡ leaves_of k.height → new ≡ mid) same dry)

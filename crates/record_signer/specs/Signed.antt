@@ -1,11 +1,11 @@
 -- What comes of signing a record, by the lease file as it was.
-use Rattle.std.specs.Prelude.{◌≡◌, ◌≢◌, ◌⊎◌, ℕ, zero, suc, ◌+◌, ◌^◌, ◌<◌, ◌≤◌, ◌==◌, ◌&&◌, Bool, true, false, not, nat_lt, if◌then◌else◌, List, [], ◌∷◌, ◌++◌, length, slice_index, Option, Some, None, Result, Ok, Err, IfOk, OnOk}
+use Rattle.std.specs.Prelude.{◌≡◌, ◌≢◌, ◌⊎◌, ℕ, zero, suc, ◌+◌, ◌^◌, ◌<◌, ◌≤◌, ◌==◌, ◌&&◌, Bool, true, false, not, nat_lt, if◌then◌else◌, List, [], ◌∷◌, ◌++◌, length, slice_index, Option, Some, None, Result, Ok, Err, IfOk, OnOk, option_map}
 use Rattle.std.specs.Option.{ForSome}
 use Rattle.std.specs.Str.{bytes_eq}
 use Rattle.hex.specs.Hex.{encode_lower}
 use Rattle.lms_core.specs.Parameters.{leaves_of, levels_of}
 use Rattle.lms_core.specs.Tree.{Key, identifier_of, public_key_of, signature_of}
-use Rattle.lease_disk.specs.Images.{AtEachMoment}
+use Rattle.lease_disk.specs.Images.{AtEachMoment, overwritten}
 use Rattle.lease_disk.specs.Kept.{AfterWrite, KeepsByte, NoLongerThan}
 use Rattle.leaf_lease.specs.Kept.{KeepsGone}
 use Rattle.leaf_lease.specs.LeaseFile.{IsGone, is_open, kept_id, kept_height, file_size, head_size}
@@ -83,6 +83,10 @@ IsSigningFault key next (fault.OtherKey id height) = ⊥
 
 -- ## Over a disk
 
+-- what a disk reads once a leaf is spent, where it tells it: the leaf's byte is 1, and all else stands
+abbrev pub spent : ℕ → Option (List ℕ) → Option (List ℕ)
+spent leaf content = option_map (λ file. overwritten file (head_size + leaf) (1 ∷ [])) content
+
 -- What a signing leaves of a disk, whatever the answer, but for the byte of one leaf: each image of each moment is one of
 -- those at the start, with at most that byte changed. So no leaf that is gone comes back, every other byte stays, and no
 -- image grows. The clock rises by at most 3.
@@ -94,13 +98,14 @@ pub record SparesBut {D : Type 0} (may_leave : D → List ℕ → Type 0) (clock
   pub ticks : clock new ≤ clock old + 3
 
 -- What a signing does over a disk with one leaf of the key, which is the next where the file is told: a line that is given
--- is signed with it, and then it is gone in every image that a crash may leave. But for its byte all stays, whatever the
+-- is signed with it, and then it is gone in every image that a crash may leave, and what reads has its byte at 1. But for its byte all stays, whatever the
 -- answer; and where the file refuses the record, that byte too: each image of each moment is one of those at the start.
 pub record Signs {D : Type 0} (content : D → Option (List ℕ)) (may_leave : D → List ℕ → Type 0) (clock : D → ℕ) (during : D → ℕ → List ℕ → Type 0) (key : Key) (r : Record) (old new : D) (result : Result (List ℕ) SigningFault) : Type 0 where
   pub leaf : ℕ
   pub next : ForSome (content old) (λ file. leaf ≡ next_leaf key file)
   pub line : IfOk result (λ line. line ≡ signed_line key leaf r)
   pub gone : OnOk result ((image : List ℕ) → may_leave new image → IsGone leaf image)
+  pub reads : OnOk result (content new ≡ spent leaf (content old))
   pub looks : is_refusal result ≡ true → AtEachMoment clock during old new (may_leave old)
   pub spared : ForSome (content old) (λ file. is_refusal (signed_by key r file) ≡ true → AtEachMoment clock during old new (may_leave old))
   pub spares : SparesBut may_leave clock during leaf old new

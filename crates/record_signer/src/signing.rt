@@ -7,7 +7,7 @@ ghost use Rattle.lease_disk.specs.Kept.{AfterWrite};
 ghost use Rattle.leaf_lease.specs.LeaseFile.{IsGone, head_size};
 ghost use Rattle.lms_core.specs.Parameters.{leaves_of, levels_of};
 ghost use Rattle.host_signer.specs.Signers.{disk_of, key_of, next_of};
-ghost use Rattle.record_signer.specs.Signed.{IsOrCut, IsSigningFault, Signs, is_disk_fault, signed_by, signed_line};
+ghost use Rattle.record_signer.specs.Signed.{IsOrCut, IsSigningFault, Signs, is_disk_fault, signed_by, signed_line, spent};
 
 use crate::faults::SigningFault;
 use crate::line::line_of;
@@ -35,6 +35,7 @@ fn sign<D: Disk>(
     ensures line { IfOk result.0 (λ line. line ≡ signed_line (key_of signer) (next_of signer) fields.now) }
     ensures left { OnOk result.0 (next_of signer ≢ leaves_of (key_of signer).height) }
     ensures gone { OnOk result.0 ((image : List ℕ) → D.may_leave result.1 image → IsGone (next_of signer) image) }
+    ensures reads { OnOk result.0 (D.now result.1 ≡ spent (next_of signer) (D.now (disk_of signer))) }
     ensures refused { IfErr result.0 (IsSigningFault (key_of signer) (next_of signer)) }
     ensures dry { next_of signer ≡ leaves_of (key_of signer).height → result.1 ≡ disk_of signer }
     ensures moments { AtEachMoment D.clock D.during (disk_of signer) result.1

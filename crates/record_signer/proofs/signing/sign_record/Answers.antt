@@ -62,4 +62,4 @@ returns-in-Ok-clause-signs g c =
     let signed = c.sign.ensures in
     signed_signs D.now D.may_leave D.clock D.during g.met.D.Disk.content_is_image c.args.tree _ c.args.fields.now c.args.disk (disk_of signer) c.sign.result.1 (next_of signer) c.sign.result.0
     opened.tree opened.says opened.content opened.firm opened.moments opened.keeps_gone opened.keeps_bytes opened.no_longer opened.clock
-    (subst (λ levels. next_of signer ≤ 2 ^ levels) signer.same_height signer.leases.within) signed.line signed.gone signed.dry signed.refused signed.moments signed.clock
+    (subst (λ levels. next_of signer ≤ 2 ^ levels) signer.same_height signer.leases.within) signed.line signed.gone signed.reads signed.dry signed.refused signed.moments signed.clock
