@@ -1,7 +1,8 @@
 //! A checker of recorded traces.
 //!
 //! `replay` reads the topology, then takes the file a line at a time, and judges each line once: it is that of the next event
-//! that is due, or of an input that the core takes. It keeps no trace. Nothing grows with the file but the flights of the core.
+//! that is due, or of an input that the core takes. It keeps no trace. Nothing grows with the file but the
+//! flights and the records that the core keeps.
 //!
 //! ```text
 //! match replay(alloc, &mut shelf, "topo.txt", "trace.txt") {
