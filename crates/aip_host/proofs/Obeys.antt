@@ -1,6 +1,7 @@
 -- What a host does with a shut-off that its guard judges.
 use Rattle.std.proofs.Common.{◌≡◌, ◌⊎◌, inl, inr, ℕ, ◌-◌, ◌<◌, ◌&&◌, ◌||◌, max, nat_lt, Bool, true, false, if◌then◌else◌, List, [], ◌∷◌, ◌++◌, refl, sym, ◌∙◌, ap, subst, Option, Some, None, arith}
 use Rattle.std.specs.Prelude.{IfOk, IfSome, IsSome, is_some, Result, Ok, Err}
+use Rattle.std.specs.List.{list_any}
 use Rattle.std.proofs.Math.Nat.{zero-max}
 use Rattle.std.proofs.lemmas.Bool.Decides.{nat_tests}
 use Rattle.aip_addr.specs.Ids.{key_id_of}
@@ -31,7 +32,7 @@ use Rattle.aip_host.specs.declared.guard.Obeying.TheVariants.{Obeyed, Halted}
 use Rattle.aip_host.specs.Guarding.{GuardState, is_told, written_with, entries_with, obeying_of, halt_after, down_after, entries_after}
 use Rattle.aip_host.specs.HostState.{HostState, next_in, stop_in, halt_in, shut_in, down_in, fell_in, down_of, standing_of}
 use Rattle.aip_host.specs.After.{Follows, halt_past, down_past, told_past}
-use Rattle.aip_host.specs.Withholding.{GuardFollows, order_event, verdict_event, verdict_of}
+use Rattle.aip_host.specs.Withholding.{GuardFollows, LeavesUnordered, is_order, order_event, verdict_event, verdict_of}
 use Rattle.aip_host.proofs.Signed.{same_name, neither}
 
 -- what holds of a value that is given holds of it still as it says less
@@ -295,7 +296,14 @@ heard_is old kept now f is same =
 pub heard_nowhere : (old : HostState) (now : ℕ) (f : Frame) → old.guard ≡ None → rules.kind_at_host (standing_of old now) f ShutOff ≡ dropped old.seat.name reason.Unguarded
 heard_nowhere old now f is = ap (λ g. rules.kind_at_host (standing_of (record old { guard = g }) now) f ShutOff) is
 
--- an order that is obeyed is no shut-off that is refused
-pub obeyed_unheard : {A : Type 0} (name : List ℕ) (to : KeyId) (until number : ℕ) (obeying : Obeying) → happens (order_event name to until obeying) ≡ happens (event.Heard name number) → A
-obeyed_unheard name to until number Obeyed is = let same = ap (λ (r : Reaction). r.events) is in absurd cc
-obeyed_unheard name to until number (Halted call byte) is = let same = ap (λ (r : Reaction). r.events) is in absurd cc
+-- what an order comes to tells of an order
+pub told_order : (name : List ℕ) (to : KeyId) (until : ℕ) (obeying : Obeying) → is_order (order_event name to until obeying) ≡ true
+told_order name to until Obeyed = refl
+told_order name to until (Halted call byte) = refl
+
+-- a reaction that tells of an order and nothing else isn't one without an order
+pub ordered : {A : Type 0} (e : Event) (reaction : Reaction) (old new : A) → reaction ≡ happens e → is_order e ≡ true → LeavesUnordered reaction old new
+ordered e reaction old new is order none =
+    let tells : (is_order e || false) ≡ false = sym (ap (λ (r : Reaction). list_any is_order r.events) is) ∙ none in
+    let told : (true || false) ≡ false = sym (ap (λ b. b || false) order) ∙ tells in
+    absurd (cc)

@@ -1,5 +1,6 @@
 -- What a guard leaves of a reaction, and what it does with a shut-off.
-use Rattle.std.specs.Prelude.{◌≡◌, ℕ, ◌&&◌, if◌then◌else◌, List, [], ◌∷◌, ◌++◌, Option, Some, None, is_some}
+use Rattle.std.specs.Prelude.{◌≡◌, ℕ, ◌&&◌, Bool, true, false, if◌then◌else◌, List, [], ◌∷◌, ◌++◌, Option, Some, None, is_some}
+use Rattle.std.specs.List.{list_any}
 use Rattle.aip_addr.specs.Ids.{key_id_of}
 use Rattle.aip_addr.specs.declared.ids.KeyId.{KeyId}
 use Rattle.aip_frame.specs.declared.frame.Frame.{Frame}
@@ -14,7 +15,6 @@ use Rattle.shutoff_filter.specs.declared.judging.Heard.{Heard}
 use Rattle.shutoff_filter.specs.declared.judging.Heard.TheVariants as heard
 use Rattle.aip_rules.specs.declared.Flight.{Flight}
 use Rattle.aip_rules.specs.declared.Reaction.{Reaction}
-use Rattle.aip_rules.specs.Reaction.{happens}
 use Rattle.aip_host.specs.declared.guard.Obeying.{Obeying}
 use Rattle.aip_host.specs.declared.guard.Obeying.TheVariants.{Obeyed, Halted}
 use Rattle.aip_host.specs.Guarding.{GuardState, obeying_of}
@@ -63,6 +63,27 @@ pub record GuardFollows (now : ℕ) (name : List ℕ) (old : GuardState) (reacti
   pub down : new.is_down ≡ down_past reaction.events name old.is_down
   pub told : SameInForce now (told_past reaction.events name old.entries) new.entries
 
--- a shut-off that is refused leaves the guard as it was, its file included
-abbrev pub LeavesUnheard : List ℕ → Reaction → Option GuardState → Option GuardState → Type 0
-LeavesUnheard name reaction old new = (number : ℕ) → reaction ≡ happens (event.Heard name number) → new ≡ old
+-- the event tells of an order to be silent that was obeyed, or in the midst of whose writing the guard fell
+abbrev pub is_order : Event → Bool
+is_order (event.Obeyed host sender until) = true
+is_order (event.Halted host sender until call byte) = true
+is_order (event.Put flight target bytes) = false
+is_order (event.Forward router in_port out_port cause) = false
+is_order (event.Ask router in_port out_port) = false
+is_order (event.Proved router source port) = false
+is_order (event.Wild router ad port) = false
+is_order (event.Refuse router number) = false
+is_order (event.Drop node reason) = false
+is_order (event.Got host packet) = false
+is_order (event.Signed host leaf) = false
+is_order (event.Stopped host leaf call byte) = false
+is_order (event.Withheld host to) = false
+is_order (event.Heard host number) = false
+is_order (event.Kept host sender until) = false
+is_order (event.PublishedPeer ad other number until) = false
+is_order (event.PublishedBind ad other number until) = false
+is_order (event.Unpublished number) = false
+
+-- without an order the guard is as it was, its file included: where a shut-off is refused, and at anything else that arrives
+abbrev pub LeavesUnordered : {A : Type 0} → Reaction → A → A → Type 0
+LeavesUnordered reaction old new = list_any is_order reaction.events ≡ false → new ≡ old

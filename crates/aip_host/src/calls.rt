@@ -8,7 +8,7 @@ ghost use Rattle.aip_topo.specs.declared.topology.Topology.{Topology};
 ghost use Rattle.aip_rules.specs.Host.{at_host, back_up, put_by, sent_frame, shut_by};
 ghost use Rattle.aip_rules.specs.Reaction.{nothing};
 ghost use Rattle.aip_host.specs.HostState.{key_in, standing_of};
-ghost use Rattle.aip_host.specs.Withholding.{LeavesUnheard};
+ghost use Rattle.aip_host.specs.Withholding.{LeavesUnordered};
 ghost use Rattle.aip_host.specs.After.{Follows, IsNew, IsRestarted, halted_in, stopped_in};
 ghost use Rattle.aip_host.specs.StandsFor.{DisksServe, StandsFor};
 ghost use Rattle.aip_host.specs.StandsOn.{ArmsHalt, ArmsStop, IsSeated, LetsAct, StandsOn, StartsAnew};
@@ -64,6 +64,9 @@ impl Host {
         ensures same { OnErr result (self.new ≡ self.old) }
         ensures stands { IfOk result (λ reaction. StandsOn now self.old LetsAct
             (λ s. put_by s (frame_bytes (sent_frame to s.seat.address packet body.now))) reaction self.new) }
+        // The guard and the key, with their files, are as they were.
+        ensures guard { self.new.guard ≡ self.old.guard }
+        ensures key { self.new.key ≡ self.old.key }
         ensures disks { DisksServe self.new }
         ensures seat { self.new.seat ≡ self.old.seat }
     {
@@ -79,6 +82,9 @@ impl Host {
         ensures same { OnErr result (self.new ≡ self.old) }
         ensures stands { IfOk result (λ reaction.
             StandsOn now self.old LetsAct (λ s. put_by s bytes.now) reaction self.new) }
+        // The guard and the key, with their files, are as they were.
+        ensures guard { self.new.guard ≡ self.old.guard }
+        ensures key { self.new.key ≡ self.old.key }
         ensures disks { DisksServe self.new }
         ensures seat { self.new.seat ≡ self.old.seat }
     {
@@ -93,8 +99,8 @@ impl Host {
         ensures follows { IfOk result (λ reaction. Follows now self.old reaction self.new) }
         ensures stands { IfOk result (λ reaction.
             StandsOn now self.old LetsAct (λ s. at_host s bytes.now) reaction self.new) }
-        // A shut-off that is refused changes nothing that the guard keeps, its file included.
-        ensures unheard { IfOk result (λ reaction. LeavesUnheard self.old.seat.name reaction self.old.guard self.new.guard) }
+        // Unless an order was obeyed, or its writing cut off, the guard, with its file, is as it was.
+        ensures unordered { IfOk result (λ reaction. LeavesUnordered reaction self.old.guard self.new.guard) }
         ensures disks { DisksServe self.new }
         ensures seat { self.new.seat ≡ self.old.seat }
     {
@@ -118,6 +124,8 @@ impl Host {
         ensures follows { IfOk result (λ reaction. Follows now self.old reaction self.new) }
         ensures stands { (key : Key) (frame : Framed) → key_in self.old.key ≡ Some key → frame_of named.now ≡ Some frame
             → IfOk result (λ reaction. StandsOn now self.old LetsAct (λ s. shut_by s key frame ttl) reaction self.new) }
+        // The guard, with its file, is as it was.
+        ensures guard { self.new.guard ≡ self.old.guard }
         ensures disks { DisksServe self.new }
         ensures seat { self.new.seat ≡ self.old.seat }
     {

@@ -1,5 +1,5 @@
 // What a host with a guard does with a shut-off, and what it says once it is up again.
-ghost use Rattle.std.specs.Prelude.{◌≡◌, ◌<◌, ◌^◌, ◌++◌, ℕ, None, Some, false, IfOk, IfSome, IsSome, OnOk};
+ghost use Rattle.std.specs.Prelude.{◌≡◌, ◌<◌, ◌^◌, ◌++◌, None, Some, false, IfOk, IfSome, IsSome, OnOk};
 ghost use Rattle.aip_event.specs.declared.event.Event.TheVariants as event;
 ghost use Rattle.aip_addr.specs.Ids.{key_id_of};
 ghost use Rattle.aip_frame.specs.declared.frame.Frame.{Frame as Framed};
@@ -9,7 +9,7 @@ ghost use Rattle.shutoff_filter.specs.Entries.{in_force, others_in_force};
 ghost use Rattle.aip_rules.specs.Host.{kept_events};
 ghost use Rattle.aip_rules.specs.Reaction.{happens};
 ghost use Rattle.aip_host.specs.Guarding.{Keeps, obeying_of};
-ghost use Rattle.aip_host.specs.Withholding.{GuardFollows, order_event, verdict_event, verdict_of};
+ghost use Rattle.aip_host.specs.Withholding.{GuardFollows, LeavesUnordered, order_event, verdict_event, verdict_of};
 
 use crate::guard::{Guard, Obeying};
 use aip_addr::{KeyId, Memory, Name};
@@ -55,7 +55,7 @@ fn obey(
     requires few { others_in_force now sender guard.old.entries < guard.old.room }
     ensures reaction { IfOk result (λ reaction. reaction ≡ happens (order_event host sender until (obeying_of guard.old sender until))) }
     ensures follows { IfOk result (λ reaction. GuardFollows now host guard.old reaction guard.new) }
-    ensures unheard { IfOk result (λ reaction. (number : ℕ) → reaction ≡ happens (event.Heard host number) → guard.new ≡ guard.old) }
+    ensures unordered { IfOk result (λ reaction. LeavesUnordered reaction guard.old guard.new) }
     ensures room { guard.new.room ≡ guard.old.room }
     ensures keeps { Keeps guard.new }
 {
@@ -81,7 +81,7 @@ pub fn hear(
     ensures reaction { (f : Framed) → frame_of frame.now ≡ Some f → IfOk result (λ reaction. reaction
         ≡ happens (verdict_event host guard.old (key_id_of f.from.eid) (verdict_of guard.old log.now now f))) }
     ensures follows { IfOk result (λ reaction. GuardFollows now host guard.old reaction guard.new) }
-    ensures unheard { IfOk result (λ reaction. (number : ℕ) → reaction ≡ happens (event.Heard host number) → guard.new ≡ guard.old) }
+    ensures unordered { IfOk result (λ reaction. LeavesUnordered reaction guard.old guard.new) }
     ensures room { guard.new.room ≡ guard.old.room }
     ensures keeps { Keeps guard.new }
 {

@@ -9,7 +9,7 @@ ghost use Rattle.aip_rules.specs.Host.{answered, at_host, back_up, challenged, h
 ghost use Rattle.aip_rules.specs.Reaction.{happens};
 ghost use Rattle.aip_host.specs.StandsFor.{DisksServe};
 ghost use Rattle.aip_host.specs.HostState.{down_of, key_in, standing_of};
-ghost use Rattle.aip_host.specs.Withholding.{LeavesUnheard};
+ghost use Rattle.aip_host.specs.Withholding.{LeavesUnordered};
 ghost use Rattle.aip_host.specs.After.{Follows, IsNew, IsRestarted, halted_in, stopped_in};
 
 use crate::answering::{answer, challenge_in};
@@ -123,6 +123,8 @@ impl Host {
         ensures reaction { IfOk result (λ reaction. reaction ≡ handed_down (standing_of self.old now) bytes) }
         ensures follows { IfOk result (λ reaction. Follows now self.old reaction self.new) }
         ensures same { OnErr result (self.new ≡ self.old) }
+        ensures guard { self.new.guard ≡ self.old.guard }
+        ensures key { self.new.key ≡ self.old.key }
         ensures disks { DisksServe self.new }
         ensures seat { self.new.seat ≡ self.old.seat }
     {
@@ -147,6 +149,8 @@ impl Host {
             ≡ put_by (standing_of self.old now) (frame_bytes (sent_frame to self.old.seat.address packet body.now))) }
         ensures follows { IfOk result (λ reaction. Follows now self.old reaction self.new) }
         ensures same { OnErr result (self.new ≡ self.old) }
+        ensures guard { self.new.guard ≡ self.old.guard }
+        ensures key { self.new.key ≡ self.old.key }
         ensures disks { DisksServe self.new }
         ensures seat { self.new.seat ≡ self.old.seat }
     {
@@ -168,6 +172,8 @@ impl Host {
         ensures reaction { IfOk result (λ reaction. reaction ≡ put_by (standing_of self.old now) bytes.now) }
         ensures follows { IfOk result (λ reaction. Follows now self.old reaction self.new) }
         ensures same { OnErr result (self.new ≡ self.old) }
+        ensures guard { self.new.guard ≡ self.old.guard }
+        ensures key { self.new.key ≡ self.old.key }
         ensures disks { DisksServe self.new }
         ensures seat { self.new.seat ≡ self.old.seat }
     {
@@ -183,7 +189,7 @@ impl Host {
         requires soon { now < 2 ^ 48 }
         ensures reaction { IfOk result (λ reaction. reaction ≡ at_host (standing_of self.old now) bytes.now) }
         ensures follows { IfOk result (λ reaction. Follows now self.old reaction self.new) }
-        ensures unheard { IfOk result (λ reaction. LeavesUnheard self.old.seat.name reaction self.old.guard self.new.guard) }
+        ensures unordered { IfOk result (λ reaction. LeavesUnordered reaction self.old.guard self.new.guard) }
         ensures disks { DisksServe self.new }
         ensures seat { self.new.seat ≡ self.old.seat }
     {
@@ -211,7 +217,7 @@ impl Host {
         requires challenge { frame.now.kind ≡ Kind.Challenge → length frame.now.body ≡ 154 }
         ensures reaction { IfOk result (λ reaction. reaction ≡ taken_at_host (standing_of self.old now) (Some frame.now)) }
         ensures follows { IfOk result (λ reaction. Follows now self.old reaction self.new) }
-        ensures unheard { IfOk result (λ reaction. LeavesUnheard self.old.seat.name reaction self.old.guard self.new.guard) }
+        ensures unordered { IfOk result (λ reaction. LeavesUnordered reaction self.old.guard self.new.guard) }
         ensures disks { DisksServe self.new }
         ensures seat { self.new.seat ≡ self.old.seat }
     {
@@ -248,7 +254,7 @@ impl Host {
         ensures reaction { (f : Framed) → frame_of bytes.now ≡ Some f
             → IfOk result (λ reaction. reaction ≡ kind_at_host (standing_of self.old now) f Kind.ShutOff) }
         ensures follows { IfOk result (λ reaction. Follows now self.old reaction self.new) }
-        ensures unheard { IfOk result (λ reaction. LeavesUnheard self.old.seat.name reaction self.old.guard self.new.guard) }
+        ensures unordered { IfOk result (λ reaction. LeavesUnordered reaction self.old.guard self.new.guard) }
         ensures disks { DisksServe self.new }
         ensures seat { self.new.seat ≡ self.old.seat }
     {
@@ -317,6 +323,7 @@ impl Host {
         ensures reaction { (key : Key) (frame : Framed) → key_in self.old.key ≡ Some key → frame_of named.now ≡ Some frame
             → IfOk result (λ reaction. reaction ≡ shut_by (standing_of self.old now) key frame ttl) }
         ensures follows { IfOk result (λ reaction. Follows now self.old reaction self.new) }
+        ensures guard { self.new.guard ≡ self.old.guard }
         ensures disks { DisksServe self.new }
         ensures seat { self.new.seat ≡ self.old.seat }
     {

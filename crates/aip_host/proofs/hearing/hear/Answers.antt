@@ -20,7 +20,7 @@ returns-in_default c =
           comes ∙ ap (λ n. happens (event.Heard name n)) c.number.ensures ∙ ap happens (refused_event name kept to c.judge.result c.in_default.not-Obeyed)
           ∙ ap (λ v. happens (verdict_event name kept to v)) judged);
       follows = if_ok c.happens.result _ _ c.happens.ensures (λ r comes. subst (λ s. GuardFollows c.args.now name kept s kept) (sym comes) (record { halt = refl; down = refl; told = λ to time later. refl }));
-      unheard = if_ok c.happens.result _ _ c.happens.ensures (λ reaction comes number is. refl);
+      unordered = if_ok c.happens.result _ _ c.happens.ensures (λ reaction comes none. refl);
       room = refl;
       keeps = c.judge.ensures.keeps;
     }

@@ -1,7 +1,7 @@
-use Rattle.std.proofs.Common.{◌∙◌, ap, sym}
+use Rattle.std.proofs.Common.{◌∙◌, ap}
 use Rattle.aip_rules.specs.Reaction.{happens}
-use Rattle.aip_host.specs.Withholding.{GuardFollows}
-use Rattle.aip_host.proofs.Obeys.{if_ok, obeyed_unheard, order_follows}
+use Rattle.aip_host.specs.Withholding.{GuardFollows, LeavesUnordered, order_event}
+use Rattle.aip_host.proofs.Obeys.{if_ok, order_follows, ordered, told_order}
 use Rattle.aip_host.proofs.hearing.obey.Goals as goal
 
 pub returns-in-Ok-clause-follows : goal.returns-in-Ok-clause-follows
@@ -11,7 +11,8 @@ returns-in-Ok-clause-follows c =
     order_follows c.args.now c.args.host c.args.guard.now c.obey.new.self c.args.sender c.args.until c.in-Ok.obeying reaction c.requires.up done.answer done.halt done.down done.entries
     (comes ∙ ap happens c.order_event.ensures))
 
-pub returns-in-Ok-clause-unheard : goal.returns-in-Ok-clause-unheard
-returns-in-Ok-clause-unheard c =
-    if_ok c.happens.result _ _ c.happens.ensures (λ reaction comes number is.
-    obeyed_unheard c.args.host c.args.sender c.args.until number c.in-Ok.obeying (sym (comes ∙ ap happens c.order_event.ensures) ∙ is))
+pub returns-in-Ok-clause-unordered : goal.returns-in-Ok-clause-unordered
+returns-in-Ok-clause-unordered c =
+    if_ok c.happens.result _ (λ reaction. LeavesUnordered reaction c.args.guard.now c.obey.new.self) c.happens.ensures (λ reaction comes.
+    ordered (order_event c.args.host c.args.sender c.args.until c.in-Ok.obeying) reaction c.args.guard.now c.obey.new.self (comes ∙ ap happens c.order_event.ensures)
+    (told_order c.args.host c.args.sender c.args.until c.in-Ok.obeying))

@@ -13,7 +13,7 @@ use Rattle.aip_host.specs.Guarding.{GuardState}
 use Rattle.aip_host.specs.HostState.{HostState, down_of, standing_of}
 use Rattle.aip_host.specs.After.{Follows}
 use Rattle.aip_host.specs.StandsFor.{DiskKeeps}
-use Rattle.aip_host.specs.Withholding.{LeavesUnheard, verdict_of}
+use Rattle.aip_host.specs.Withholding.{LeavesUnordered, verdict_of}
 use Rattle.aip_host.proofs.Obeys.{if_ok, if_both, there, heard_is, heard_nowhere, heard_follows, drop_follows}
 use Rattle.aip_host.proofs.host.Host.heed.Goals.{in-Some, in-None}
 use Rattle.aip_host.proofs.host.Host.heed.Goals as goal
@@ -58,19 +58,19 @@ returns-clause-follows c =
           (if_ok w.dropped.result _ _ w.dropped.ensures (λ reaction comes. drop_follows now old reason.Unguarded reaction comes)))
     ])
 
-pub returns-clause-unheard : goal.returns-clause-unheard
-returns-clause-unheard c =
+pub returns-clause-unordered : goal.returns-clause-unordered
+returns-clause-unordered c =
     let inside = c.self.inside in
     let old : HostState = record { seat = inside.seat; towards = inside.towards; room = inside.room; log = inside.log; key = inside.key; guard = inside.guard } in
-    let Leaves = λ (result : Result Reaction AllocError) (h : Inside). IfOk result (λ reaction. LeavesUnheard old.seat.name reaction old.guard h.guard) in
-    subst (λ (h : HostState). IfOk c.match-self.result (λ reaction. LeavesUnheard h.seat.name reaction h.guard (the_view c.match-self.self-inside).guard)) c.self.view_is
+    let Leaves = λ (result : Result Reaction AllocError) (h : Inside). IfOk result (λ reaction. LeavesUnordered reaction old.guard h.guard) in
+    subst (λ (h : HostState). IfOk c.match-self.result (λ reaction. LeavesUnordered reaction h.guard (the_view c.match-self.self-inside).guard)) c.self.view_is
     (elim c.match-self.branch [
       | in-Some w ↦
           subst (λ result. Leaves result c.match-self.self-inside) (sym w.result-is)
           (subst (λ (h : Inside). Leaves w.hear.result h) (sym w.self-inside-is)
-          (if_ok w.hear.result _ _ w.hear.ensures.unheard (λ reaction same number comes. ap Some (same number comes) ∙ sym w.in-Some.is)))
+          (if_ok w.hear.result _ _ w.hear.ensures.unordered (λ reaction same none. ap Some (same none) ∙ sym w.in-Some.is)))
       | in-None w ↦
           subst (λ result. Leaves result c.match-self.self-inside) (sym w.result-is)
           (subst (λ (h : Inside). Leaves w.dropped.result h) (sym w.self-inside-is)
-          (if_ok w.dropped.result _ _ w.dropped.ensures (λ reaction comes number is. refl)))
+          (if_ok w.dropped.result _ _ w.dropped.ensures (λ reaction comes none. refl)))
     ])
