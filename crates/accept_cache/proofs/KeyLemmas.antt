@@ -7,12 +7,13 @@ use Rattle.aip_addr.specs.declared.ids.Id.{Id}
 use Rattle.aip_addr.specs.declared.ids.Address.{Address}
 use Rattle.accept_cache.specs.declared.keys.Pair.{Pair}
 use Rattle.accept_cache.specs.declared.keys.Wildcard.{Wildcard}
-use Rattle.accept_cache.specs.Keys.{same_id, same_address, same_pair, same_wildcard}
+use Rattle.aip_addr.specs.Ids.{is_same_address}
+use Rattle.accept_cache.specs.Keys.{same_id, same_pair, same_wildcard}
 
 same_id_equiv : IsEquivalence same_id
 same_id_equiv = on_equiv (λ (a : Id). a.bytes) nat_list_eq_equiv
 
-same_address_equiv : IsEquivalence same_address
+same_address_equiv : IsEquivalence is_same_address
 same_address_equiv = and_equiv (on_equiv (λ (a : Address). a.ad) same_id_equiv) (on_equiv (λ (a : Address). a.eid) same_id_equiv)
 
 pub same_pair_equiv : IsEquivalence same_pair
@@ -28,7 +29,7 @@ decided {K} {eq} laws a b from = (from, λ e. subst (λ x. eq a x ≡ true) e (l
 same_ids : (a b : Id) → same_id a b ≡ true → a ≡ b
 same_ids a b t = let bytes = (bytes_decides a.bytes b.bytes).0 t in λ i. record { bytes = bytes i }
 
-same_addresses : (a b : Address) → same_address a b ≡ true → a ≡ b
+same_addresses : (a b : Address) → is_same_address a b ≡ true → a ≡ b
 same_addresses a b t =
     let ad = same_ids a.ad b.ad (first_so (same_id a.ad b.ad) (same_id a.eid b.eid) t) in
     let eid = same_ids a.eid b.eid (second_so (same_id a.ad b.ad) (same_id a.eid b.eid) t) in
@@ -36,8 +37,8 @@ same_addresses a b t =
 
 same_pairs : (a b : Pair) → same_pair a b ≡ true → a ≡ b
 same_pairs a b t =
-    let source = same_addresses a.source b.source (first_so (same_address a.source b.source) (a.port == b.port) t) in
-    let port = (unsigned_Decides a.port b.port).0 (second_so (same_address a.source b.source) (a.port == b.port) t) in
+    let source = same_addresses a.source b.source (first_so (is_same_address a.source b.source) (a.port == b.port) t) in
+    let port = (unsigned_Decides a.port b.port).0 (second_so (is_same_address a.source b.source) (a.port == b.port) t) in
     λ i. record { source = source i; port = port i }
 
 same_wildcards : (a b : Wildcard) → same_wildcard a b ≡ true → a ≡ b

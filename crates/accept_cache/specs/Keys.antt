@@ -2,6 +2,7 @@
 use Rattle.std.specs.Prelude.{ℕ, Bool, ◌&&◌, ◌==◌, nat_eq}
 use Rattle.std.specs.Cmp.Lexicographic.{pointwise}
 use Rattle.aip_addr.specs.declared.ids.Id.{Id}
+use Rattle.aip_addr.specs.Ids.{is_same_address}
 use Rattle.aip_addr.specs.declared.ids.Address.{Address}
 use Rattle.accept_cache.specs.declared.keys.Pair.{Pair}
 use Rattle.accept_cache.specs.declared.keys.Wildcard.{Wildcard}
@@ -10,13 +11,9 @@ use Rattle.accept_cache.specs.declared.keys.Wildcard.{Wildcard}
 abbrev pub same_id : Id → Id → Bool
 same_id a b = pointwise nat_eq a.bytes b.bytes
 
--- two addresses have the same domain and the same host or router
-abbrev pub same_address : Address → Address → Bool
-same_address a b = same_id a.ad b.ad && same_id a.eid b.eid
-
 -- two pairs have the same source and the same port
 abbrev pub same_pair : Pair → Pair → Bool
-same_pair a b = same_address a.source b.source && (a.port == b.port)
+same_pair a b = is_same_address a.source b.source && (a.port == b.port)
 
 -- two wildcards have the same domain and the same port
 abbrev pub same_wildcard : Wildcard → Wildcard → Bool

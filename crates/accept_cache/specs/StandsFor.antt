@@ -16,7 +16,7 @@ pub record AreLastTouched {K : Type 0} (eq : K → K → Bool) (room : ℕ) (use
   pub times : All (HasLastTime eq uses) entries
 
 -- the cache keeps the last touched pairs, at most `cache`, and the last touched wildcards, at most `wildcache`
-pub record StandsFor (uses : PairUses) (wilds : WildcardUses) (kept : Kept) : Type 0 where
+pub record CacheStandsFor (uses : PairUses) (wilds : WildcardUses) (kept : Kept) : Type 0 where
   pub room : HasRoom kept.limits
   pub sources : AreLastTouched same_pair kept.limits.cache uses kept.sources
   pub wildcards : AreLastTouched same_wildcard kept.limits.wildcache wilds kept.wildcards

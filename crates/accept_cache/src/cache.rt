@@ -4,13 +4,13 @@ ghost use Rattle.std.specs.Map.{keys_of};
 ghost use Rattle.accept_cache.specs.Keys.{same_pair, same_wildcard, pair_of, wildcard_of};
 ghost use Rattle.accept_cache.specs.Recency.{Proved, Hit, is_within};
 ghost use Rattle.accept_cache.specs.Accepted.{PairUses, WildcardUses, is_fresh_pair, is_fresh_wildcard, promotes};
-ghost use Rattle.accept_cache.specs.StandsFor.{StandsFor};
+ghost use Rattle.accept_cache.specs.StandsFor.{CacheStandsFor};
 ghost use Rattle.accept_cache.specs.Kept.{HasRoom, nothing_kept, after_proved, after_hit, after_hit_wild, after_promote, has_fresh, has_fresh_wild, fresh_count, is_promoted};
 
 use crate::keys::{Limits, Pair, Wildcard};
-use aip_addr::{Address, Id, Memory};
+use aip_addr::{Address, Id};
 use lru::LruCache;
-use std::alloc::Global;
+use std::alloc::{AllocError, Global};
 use std::marker::Model;
 use std::num::NonZeroUsize;
 
@@ -35,10 +35,10 @@ impl Model for AcceptCache {
 
 impl AcceptCache {
     /// An empty cache with these limits. The only error is want of memory.
-    pub fn new(alloc: Global, limits: &Limits) -> Result<AcceptCache, Memory>
+    pub fn new(alloc: Global, limits: &Limits) -> Result<AcceptCache, AllocError>
         requires { HasRoom limits.now }
         ensures kept { IfOk result (λ cache. cache ≡ nothing_kept limits.now) }
-        ensures stands { IfOk result (λ cache. StandsFor [] [] cache) }
+        ensures stands { IfOk result (λ cache. CacheStandsFor [] [] cache) }
     {
         let cache = NonZeroUsize::new(limits.cache as usize).unwrap();
         let wildcache = NonZeroUsize::new(limits.wildcache as usize).unwrap();
@@ -51,14 +51,14 @@ impl AcceptCache {
 
     /// Takes the source as proved at the port: the pair is the last touched, and its time is now.
     /// The only error is want of memory, and then nothing has changed.
-    pub fn proved(&mut self, source: &Address, port: u16, now: u64) -> Result<(), Memory>
+    pub fn proved(&mut self, source: &Address, port: u16, now: u64) -> Result<(), AllocError>
         ensures kept { OnOk result (self.new ≡ after_proved self.old (pair_of source.now port) now) }
         ensures unchanged { OnErr result (self.new ≡ self.old) }
         ensures limits { self.new.limits ≡ self.old.limits }
 
         // For the uses that it stood for: it stands for one use more.
-        ensures stands { (uses : PairUses) (wilds : WildcardUses) → StandsFor uses wilds self.old
-            → OnOk result (StandsFor (Proved (pair_of source.now port) now ∷ uses) wilds self.new) }
+        ensures stands { (uses : PairUses) (wilds : WildcardUses) → CacheStandsFor uses wilds self.old
+            → OnOk result (CacheStandsFor (Proved (pair_of source.now port) now ∷ uses) wilds self.new) }
     {
         self.keep(
             Pair {
@@ -72,17 +72,17 @@ impl AcceptCache {
     /// Makes the domain a wildcard at the port where at least `threshold` distinct fresh sources of it stand there and
     /// no fresh wildcard does, and says whether it did. The wildcard made is the last touched, and its time is now.
     /// The sources keep their order. The only error is want of memory, and then nothing has changed.
-    pub fn promote(&mut self, ad: &Id, port: u16, now: u64) -> Result<bool, Memory>
+    pub fn promote(&mut self, ad: &Id, port: u16, now: u64) -> Result<bool, AllocError>
         ensures answer { IfOk result (λ made. made ≡ is_promoted self.old (wildcard_of ad.now port) now) }
         ensures kept { IfOk result (λ made. self.new ≡ after_promote self.old (wildcard_of ad.now port) now made) }
         ensures unchanged { OnErr result (self.new ≡ self.old) }
         ensures limits { self.new.limits ≡ self.old.limits }
 
         // For the uses that it stood for: what promotes, and what it stands for then.
-        ensures promotes { (uses : PairUses) (wilds : WildcardUses) → StandsFor uses wilds self.old
+        ensures promotes { (uses : PairUses) (wilds : WildcardUses) → CacheStandsFor uses wilds self.old
             → IfOk result (λ made. made ≡ promotes self.old.limits uses wilds now (wildcard_of ad.now port)) }
-        ensures stands { (uses : PairUses) (wilds : WildcardUses) → StandsFor uses wilds self.old
-            → IfOk result (λ made. StandsFor uses (cond made (Proved (wildcard_of ad.now port) now ∷ wilds) wilds) self.new) }
+        ensures stands { (uses : PairUses) (wilds : WildcardUses) → CacheStandsFor uses wilds self.old
+            → IfOk result (λ made. CacheStandsFor uses (cond made (Proved (wildcard_of ad.now port) now ∷ wilds) wilds) self.new) }
     {
         self.keep_wild(Wildcard { ad: *ad, port }, now)
     }
@@ -94,10 +94,10 @@ impl AcceptCache {
         ensures limits { self.new.limits ≡ self.old.limits }
 
         // For the uses that it stood for: whether the pair is fresh, and what it stands for then.
-        ensures fresh { (uses : PairUses) (wilds : WildcardUses) → StandsFor uses wilds self.old
+        ensures fresh { (uses : PairUses) (wilds : WildcardUses) → CacheStandsFor uses wilds self.old
             → result ≡ is_fresh_pair self.old.limits uses now (pair_of source.now port) }
-        ensures stands { (uses : PairUses) (wilds : WildcardUses) → StandsFor uses wilds self.old
-            → StandsFor (cond result (Hit (pair_of source.now port) ∷ uses) uses) wilds self.new }
+        ensures stands { (uses : PairUses) (wilds : WildcardUses) → CacheStandsFor uses wilds self.old
+            → CacheStandsFor (cond result (Hit (pair_of source.now port) ∷ uses) uses) wilds self.new }
     {
         self.touch(
             &Pair {
@@ -115,10 +115,10 @@ impl AcceptCache {
         ensures limits { self.new.limits ≡ self.old.limits }
 
         // For the uses that it stood for: whether the wildcard is fresh, and what it stands for then.
-        ensures fresh { (uses : PairUses) (wilds : WildcardUses) → StandsFor uses wilds self.old
+        ensures fresh { (uses : PairUses) (wilds : WildcardUses) → CacheStandsFor uses wilds self.old
             → result ≡ is_fresh_wildcard self.old.limits wilds now (wildcard_of ad.now port) }
-        ensures stands { (uses : PairUses) (wilds : WildcardUses) → StandsFor uses wilds self.old
-            → StandsFor uses (cond result (Hit (wildcard_of ad.now port) ∷ wilds) wilds) self.new }
+        ensures stands { (uses : PairUses) (wilds : WildcardUses) → CacheStandsFor uses wilds self.old
+            → CacheStandsFor uses (cond result (Hit (wildcard_of ad.now port) ∷ wilds) wilds) self.new }
     {
         self.touch_wild(&Wildcard { ad: *ad, port }, now)
     }
@@ -126,8 +126,8 @@ impl AcceptCache {
     /// Forgets every source and every wildcard.
     pub fn clear(&mut self)
         ensures kept { self.new ≡ nothing_kept self.old.limits }
-        ensures stands { (uses : PairUses) (wilds : WildcardUses) → StandsFor uses wilds self.old
-            → StandsFor [] [] self.new }
+        ensures stands { (uses : PairUses) (wilds : WildcardUses) → CacheStandsFor uses wilds self.old
+            → CacheStandsFor [] [] self.new }
     {
         self.sources.clear();
         self.wildcards.clear();
@@ -151,7 +151,7 @@ impl AcceptCache {
         self.wildcards.len()
     }
 
-    fn keep(&mut self, pair: Pair, now: u64) -> Result<(), Memory>
+    fn keep(&mut self, pair: Pair, now: u64) -> Result<(), AllocError>
         ensures kept { OnOk result (self.new ≡ after_proved self.old pair now) }
         ensures unchanged { OnErr result (self.new ≡ self.old) }
         ensures limits { self.new.limits ≡ self.old.limits }
@@ -160,7 +160,7 @@ impl AcceptCache {
         Ok(())
     }
 
-    fn keep_wild(&mut self, wildcard: Wildcard, now: u64) -> Result<bool, Memory>
+    fn keep_wild(&mut self, wildcard: Wildcard, now: u64) -> Result<bool, AllocError>
         ensures answer { IfOk result (λ made. made ≡ is_promoted self.old wildcard now) }
         ensures kept { IfOk result (λ made. self.new ≡ after_promote self.old wildcard now made) }
         ensures unchanged { OnErr result (self.new ≡ self.old) }

@@ -25,8 +25,5 @@ pub use byte_string::Bytes;
 pub use ids::{Address, Id, KeyId, owns};
 pub use names::Name;
 
-/// Want of memory, the allocator's error. It stands for nothing else.
-pub type Memory = std::alloc::AllocError;
-
 #[cfg(test)]
 mod tests;

@@ -13,7 +13,7 @@ use Rattle.aip_rules.specs.declared.Reaction.{Reaction}
 use Rattle.aip_rules.specs.declared.StepFault.{StepFault}
 use Rattle.aip_rules.specs.declared.StepFault.TheVariants as fault
 use Rattle.aip_rules.specs.State.{ticks_of}
-use Rattle.aip_rules.specs.Nodes.{seats_of, router_named}
+use Rattle.aip_rules.specs.Nodes.{seats_of, place_of_router}
 use Rattle.aip_rules.specs.Reaction.{nothing, numbered}
 use Rattle.aip_rules.specs.Step.{refused_if}
 use Rattle.aip_core.specs.Kept.{Kept}
@@ -91,7 +91,7 @@ boots_if n states (Some q) all = boots_anew n states q all
 
 -- an input starts each router anew at most once
 pub boots_with : (n : ℕ) (topo : Topology) (input : Input) (states : List RouterState) → All (IsBootedUpTo n) states → All (IsBootedUpTo (n + 1)) (routers_with topo input states)
-boots_with n topo (Restart node) states all = boots_if n states (router_unless (seat_place (seats_of topo) node) (router_named topo.routers node)) all
+boots_with n topo (Restart node) states all = boots_if n states (router_unless (seat_place (seats_of topo) node) (place_of_router topo.routers node)) all
 boots_with n topo input states all = boots_more n states all
 
 count_if : (states : List RouterState) (place : Option ℕ) → length (anew_if states place) ≡ length states
@@ -100,5 +100,5 @@ count_if states (Some q) = anew_count states q
 
 -- and there are as many routers as before
 pub count_with : (topo : Topology) (input : Input) (states : List RouterState) → length (routers_with topo input states) ≡ length states
-count_with topo (Restart node) states = count_if states (router_unless (seat_place (seats_of topo) node) (router_named topo.routers node))
+count_with topo (Restart node) states = count_if states (router_unless (seat_place (seats_of topo) node) (place_of_router topo.routers node))
 count_with topo input states = refl

@@ -14,7 +14,7 @@ use Rattle.aip_topo.specs.declared.topology.Router.{Router}
 use Rattle.aip_topo.specs.declared.topology.Topology.{Topology}
 use Rattle.aip_registry.specs.declared.records.Record.{Record}
 use Rattle.aip_rules.specs.declared.Flight.{Flight}
-use Rattle.aip_rules.specs.Nodes.{seats_of, address_named, router_named}
+use Rattle.aip_rules.specs.Nodes.{seats_of, address_named, place_of_router}
 use Rattle.aip_rules.specs.Reaction.{nothing}
 use Rattle.aip_rules.specs.Host.{back_up}
 use Rattle.aip_host.specs.HostState.{HostState, standing_of}
@@ -27,7 +27,7 @@ use Rattle.aip_core.specs.Kept.{Kept}
 use Rattle.std.specs.declared.alloc.AllocError.{AllocError as NoMemory}
 use Rattle.aip_core.specs.Rooms.{IsBootedUpTo}
 use Rattle.aip_core.specs.RouterMachine.{RouterState, after_place, kept_at_place}
-use Rattle.aip_core.specs.Machine.{AreSeated, seat_place, host_of, at_host_or, host_outcome, kept_sent, kept_raw, kept_delivered, kept_outcome, port_reached, router_reached, target_reached}
+use Rattle.aip_core.specs.Machine.{AreSeated, basis_in, seat_place, host_of, at_host_or, host_outcome, kept_sent, kept_raw, kept_delivered, kept_outcome, port_reached, router_reached, target_reached}
 use Rattle.aip_core.specs.Moves.{Does, GoesOn, GoesToPort, HostMoves, IsAnew, Moved, MovesAt, RouterMoves, after_flight, after_target, host_at, host_touched, records_with, router_at, router_touched}
 use Rattle.aip_core.proofs.Found.{beside}
 use Rattle.aip_core.proofs.Positions.{position_passes}
@@ -118,10 +118,10 @@ restart_acts topo flights now host new input node result is does =
 -- ---- in a core
 
 flight_touches : (topo : Topology) (flight : Option Flight) (p : ℕ) → option_and_then (λ name. seat_place (seats_of topo) name) (option_and_then (λ f. host_at f.target) flight) ≡ Some p
-    → option_and_then (λ name. router_named topo.routers name) (option_and_then (λ f. router_at f.target) flight) ≡ None
+    → option_and_then (λ name. place_of_router topo.routers name) (option_and_then (λ f. router_at f.target) flight) ≡ None
 flight_touches topo None p touched = refl
 flight_touches topo (Some flight) p touched = by_target flight.target touched where
-  by_target : (to : Target) → option_and_then (λ name. seat_place (seats_of topo) name) (host_at to) ≡ Some p → option_and_then (λ name. router_named topo.routers name) (router_at to) ≡ None
+  by_target : (to : Target) → option_and_then (λ name. seat_place (seats_of topo) name) (host_at to) ≡ Some p → option_and_then (λ name. place_of_router topo.routers name) (router_at to) ≡ None
   by_target (target.Host name) touched = refl
   by_target (target.Port name port) touched = absurd cc
 
@@ -242,9 +242,9 @@ given reaction = Ok reaction
 -- a flight crosses a router: the core moves by what the router does
 crosses : (kept next : Kept) (number place port : ℕ) (flight : Flight) (state : RouterState) (reaction : Reaction) (name : List ℕ)
     → next ≡ record kept { routers = next.routers } → slice_get kept.flights number ≡ Some flight → flight.target ≡ target.Port name port
-    → router_named kept.topo.routers name ≡ Some place → slice_get kept.routers place ≡ Some state
-    → reaction ≡ kept_at_place kept.topo kept.links kept.records state kept.ticks place (slice_get kept.topo.routers place) port flight.bytes
-    → MovesAt RouterState (Some place) (λ old new. new ≡ after_place kept.topo kept.links kept.records old kept.ticks place (slice_get kept.topo.routers place) port flight.bytes) kept.routers next.routers
+    → place_of_router kept.topo.routers name ≡ Some place → slice_get kept.routers place ≡ Some state
+    → reaction ≡ kept_at_place (basis_in kept state) place (slice_get kept.topo.routers place) port flight.bytes
+    → MovesAt RouterState (Some place) (λ old new. new ≡ after_place (basis_in kept old) place (slice_get kept.topo.routers place) port flight.bytes) kept.routers next.routers
     → (kept_outcome kept (Deliver number) ≡ Ok reaction) × Moved kept (Deliver number) reaction next
 crosses kept next number place port flight state reaction name is put goes named at reacts moves =
     let reached : kept_outcome kept (Deliver number) ≡ Ok (router_reached kept place port flight.bytes (Some state)) =
@@ -253,12 +253,12 @@ crosses kept next number place port flight state reaction name is put goes named
     ∙ ap (λ (o : Option ℕ). given (port_reached kept o port flight.bytes)) named
     ∙ ap (λ (o : Option RouterState). given (router_reached kept place port flight.bytes o)) at in
     let touched : router_touched kept.topo kept.flights (Deliver number) ≡ Some place =
-    ap (λ (o : Option Flight). option_and_then (λ n. router_named kept.topo.routers n) (option_and_then (λ f. router_at f.target) o)) put
-    ∙ ap (λ (t : Target). option_and_then (λ n. router_named kept.topo.routers n) (router_at t)) goes ∙ named in
+    ap (λ (o : Option Flight). option_and_then (λ n. place_of_router kept.topo.routers n) (option_and_then (λ f. router_at f.target) o)) put
+    ∙ ap (λ (t : Target). option_and_then (λ n. place_of_router kept.topo.routers n) (router_at t)) goes ∙ named in
     let unreached : host_touched kept.topo kept.flights (Deliver number) ≡ None =
     ap (λ (o : Option Flight). option_and_then (λ n. seat_place (seats_of kept.topo) n) (option_and_then (λ f. host_at f.target) o)) put
     ∙ ap (λ (t : Target). option_and_then (λ n. seat_place (seats_of kept.topo) n) (host_at t)) goes in
-    let after : (s : RouterState) → after_place kept.topo kept.links kept.records s kept.ticks place (slice_get kept.topo.routers place) port flight.bytes ≡ after_flight kept place s (slice_get kept.flights number) =
+    let after : (s : RouterState) → after_place (basis_in kept s) place (slice_get kept.topo.routers place) port flight.bytes ≡ after_flight kept place s (slice_get kept.flights number) =
     λ s. sym (ap (λ (o : Option Flight). after_flight kept place s o) put ∙ ap (λ (t : Target). after_target kept place s t flight.bytes) goes) in (
       reached ∙ ap given (sym reacts),
       record {
@@ -284,8 +284,8 @@ pub crosses_in_core : (inside kept next : Kept) (number place port : ℕ) (fligh
     → length kept.routers ≡ length kept.topo.routers → router_touched kept.topo kept.flights (Deliver number) ≡ Some place → GoesToPort (slice_get kept.flights number) port
     → slice_get inside.flights number ≡ Some flight
     → ((state : RouterState) → slice_get inside.routers place ≡ Some state
-    → reaction ≡ kept_at_place inside.topo inside.links inside.records state inside.ticks place (slice_get inside.topo.routers place) port flight.bytes)
-    → MovesAt RouterState (Some place) (λ old new. new ≡ after_place inside.topo inside.links inside.records old inside.ticks place (slice_get inside.topo.routers place) port flight.bytes) inside.routers next.routers
+    → reaction ≡ kept_at_place (basis_in inside state) place (slice_get inside.topo.routers place) port flight.bytes)
+    → MovesAt RouterState (Some place) (λ old new. new ≡ after_place (basis_in inside old) place (slice_get inside.topo.routers place) port flight.bytes) inside.routers next.routers
     → (kept_outcome kept (Deliver number) ≡ Ok reaction) × Moved kept (Deliver number) reaction next
 crosses_in_core inside kept next number place port flight reaction same is count touched port_is put reacts moves =
     subst (λ (k : Kept). length k.routers ≡ length k.topo.routers → router_touched k.topo k.flights (Deliver number) ≡ Some place → GoesToPort (slice_get k.flights number) port
@@ -296,9 +296,9 @@ crosses_in_core inside kept next number place port flight reaction same is count
       here counts reached goes =
           let goal_port : option_map (λ (f : Flight). f.target) (Some flight) ≡ Some (target.Port goes.0 port) = ap (λ (o : Option Flight). option_map (λ f. f.target) o) (sym put) ∙ goes.1 in
           let to : flight.target ≡ target.Port goes.0 port = cc in
-          let named : router_named inside.topo.routers goes.0 ≡ Some place =
-          sym (ap (λ (o : Option Flight). option_and_then (λ n. router_named inside.topo.routers n) (option_and_then (λ f. router_at f.target) o)) put
-          ∙ ap (λ (t : Target). option_and_then (λ n. router_named inside.topo.routers n) (router_at t)) to) ∙ reached in
+          let named : place_of_router inside.topo.routers goes.0 ≡ Some place =
+          sym (ap (λ (o : Option Flight). option_and_then (λ n. place_of_router inside.topo.routers n) (option_and_then (λ f. router_at f.target) o)) put
+          ∙ ap (λ (t : Target). option_and_then (λ n. place_of_router inside.topo.routers n) (router_at t)) to) ∙ reached in
           let self = position_passes (λ (r : Router). bytes_eq r.name goes.0) inside.topo.routers place named in
           let state = beside inside.topo.routers inside.routers place self.item counts self.there in
           crosses inside next number place port flight state.0 reaction goes.0 is put to named state.1 (reacts state.0 state.1) moves

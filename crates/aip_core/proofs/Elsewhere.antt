@@ -20,12 +20,12 @@ use Rattle.aip_rules.specs.declared.Seat.{Seat}
 use Rattle.aip_rules.specs.declared.StepFault.{StepFault}
 use Rattle.aip_rules.specs.declared.StepFault.TheVariants as fault
 use Rattle.aip_rules.specs.State.{now_of, flights_of, flight_at, frame_in}
-use Rattle.aip_rules.specs.Nodes.{seats_of, seat_named, router_named, address_named, neighbours_of, links_of, key_named}
+use Rattle.aip_rules.specs.Nodes.{seats_of, seat_named, place_of_router, address_named, neighbours_of, links_of, key_named}
 use Rattle.aip_rules.specs.Reaction.{nothing, numbered, put_event, puts}
 use Rattle.aip_rules.specs.Records.{publishes, records_kept}
 use Rattle.aip_rules.specs.Standing.{standing}
 use Rattle.aip_rules.specs.Host.{put_by, sent_frame}
-use Rattle.aip_rules.specs.Step.{can_be_put, has_key, refused_if, sent, put_raw, arrives_at_router, arrives_at_port, arrives_at_seat, arrives, delivered, injected_at_port, injected_at_host, injected, relinked, shut_with, shut_named, shut_off, restarted, stop_armed, halt_armed, most_bytes, outcome_of, published}
+use Rattle.aip_rules.specs.Step.{can_be_put, has_key, refused_if, sent, put_raw, arrives_at_router, arrives_at_port, arrives_at_seat, arrives, delivered, injected_at_port, injected_at_host, injected, relinked, shut_with, shut_named, shut_off, restarted, armed_with_stop, armed_with_halt, most_bytes, outcome_of, published}
 use Rattle.aip_rules.proofs.Publications.{of_publication}
 use Rattle.aip_core.specs.Machine.{seat_place}
 use Rattle.aip_core.specs.Moves.{host_at, host_named_by, host_touched, router_at, router_touched}
@@ -101,13 +101,13 @@ restart_else topo tr name (Some seat) router other = elsewhere seat.name name _ 
 restart_else topo tr name None (Some router) other = tt
 restart_else topo tr name None None other = tt
 
-stop_else : (topo : Topology) (name : List ℕ) (seat : Option Seat) (call byte : ℕ) → IsElsewhere name (stop_armed topo seat call byte)
+stop_else : (topo : Topology) (name : List ℕ) (seat : Option Seat) (call byte : ℕ) → IsElsewhere name (armed_with_stop topo seat call byte)
 stop_else topo name None call byte = tt
 stop_else topo name (Some seat) call byte =
     unless name ((call == 0) || (nat_lt 2 call || nat_le 256 byte)) fault.Range (cond (has_key (key_named topo.parts seat.name)) (Ok nothing) (Err fault.Keyless))
     (where_allowed name (has_key (key_named topo.parts seat.name)) fault.Keyless (Ok nothing) tt)
 
-halt_else : (name : List ℕ) (seat : Option Seat) (call byte : ℕ) → IsElsewhere name (halt_armed seat call byte)
+halt_else : (name : List ℕ) (seat : Option Seat) (call byte : ℕ) → IsElsewhere name (armed_with_halt seat call byte)
 halt_else name None call byte = tt
 halt_else name (Some seat) call byte = unless name ((call == 0) || (nat_lt 4 call || nat_le 256 byte)) fault.Range (Ok nothing) tt
 
@@ -122,7 +122,7 @@ injected_host_else name None to bytes = tt
 injected_host_else name (Some seat) to bytes = where_allowed name (can_be_put (length bytes)) fault.Range (Ok (puts to bytes)) tt
 
 injected_else : (topo : Topology) (name : List ℕ) (to : Target) (bytes : List ℕ) → IsElsewhere name (injected topo to bytes)
-injected_else topo name (target.Port router port) bytes = injected_port_else topo name (router_named topo.routers router) (target.Port router port) port bytes
+injected_else topo name (target.Port router port) bytes = injected_port_else topo name (place_of_router topo.routers router) (target.Port router port) port bytes
 injected_else topo name (target.Host host) bytes = injected_host_else name (seat_named (seats_of topo) host) (target.Host host) bytes
 
 -- ---- deliveries
@@ -164,14 +164,14 @@ port_else topo tr name (Some place) port bytes h =
 
 target_else : (topo : Topology) (tr : List Entry) (name : List ℕ) (to : Target) (bytes : List ℕ)
     → OtherHosts topo name (option_and_then (λ host. seat_place (seats_of topo) host) (host_at to))
-    → OtherRouters topo name (option_and_then (λ router. router_named topo.routers router) (router_at to))
+    → OtherRouters topo name (option_and_then (λ router. place_of_router topo.routers router) (router_at to))
     → AreElsewhere name (arrives topo tr to bytes).events
-target_else topo tr name (target.Port router port) bytes hosts routers = port_else topo tr name (router_named topo.routers router) port bytes routers
+target_else topo tr name (target.Port router port) bytes hosts routers = port_else topo tr name (place_of_router topo.routers router) port bytes routers
 target_else topo tr name (target.Host host) bytes hosts routers = seat_else topo tr name (seat_named (seats_of topo) host) bytes (other_seat topo name host hosts)
 
 delivered_else : (topo : Topology) (tr : List Entry) (name : List ℕ) (flight : Option Flight)
     → OtherHosts topo name (option_and_then (λ host. seat_place (seats_of topo) host) (option_and_then (λ f. host_at f.target) flight))
-    → OtherRouters topo name (option_and_then (λ router. router_named topo.routers router) (option_and_then (λ f. router_at f.target) flight))
+    → OtherRouters topo name (option_and_then (λ router. place_of_router topo.routers router) (option_and_then (λ f. router_at f.target) flight))
     → IsElsewhere name (delivered topo tr flight)
 delivered_else topo tr name None hosts routers = tt
 delivered_else topo tr name (Some flight) hosts routers = target_else topo tr name flight.target flight.bytes hosts routers
@@ -198,7 +198,7 @@ outcome_else topo tr name (Inject to bytes) hosts routers = injected_else topo n
 outcome_else topo tr name (Cut link) hosts routers = where_allowed name (nat_lt link (length (links_of topo))) fault.Range (Ok nothing) tt
 outcome_else topo tr name (Mend link) hosts routers = where_allowed name (nat_lt link (length (links_of topo))) fault.Range (Ok nothing) tt
 outcome_else topo tr name (Shutoff host flight ttl) hosts routers = shut_else topo tr name (seat_named (seats_of topo) host) (flight_at tr flight) ttl (other_seat topo name host hosts)
-outcome_else topo tr name (Restart node) hosts routers = restart_else topo tr name (seat_named (seats_of topo) node) (router_named topo.routers node) (other_seat topo name node hosts)
+outcome_else topo tr name (Restart node) hosts routers = restart_else topo tr name (seat_named (seats_of topo) node) (place_of_router topo.routers node) (other_seat topo name node hosts)
 outcome_else topo tr name (Stop host call byte) hosts routers = stop_else topo name (seat_named (seats_of topo) host) call byte
 outcome_else topo tr name (Halt host call byte) hosts routers = halt_else name (seat_named (seats_of topo) host) call byte
 outcome_else topo tr name (Publish bytes) hosts routers = published_else tr name bytes

@@ -7,9 +7,9 @@ use Rattle.aip_topo.specs.declared.topology.Router.{Router}
 use Rattle.aip_topo.specs.declared.topology.Topology.{Topology}
 use Rattle.aip_rules.specs.declared.Entry.{Entry}
 use Rattle.aip_rules.specs.declared.Seat.{Seat}
-use Rattle.aip_rules.specs.Nodes.{seats_of, seat_named, router_named}
+use Rattle.aip_rules.specs.Nodes.{seats_of, seat_named, place_of_router}
 use Rattle.aip_host.specs.HostState.{HostState}
-use Rattle.aip_host.specs.StandsFor.{StandsFor as HostStands}
+use Rattle.aip_host.specs.StandsFor.{HostStandsFor}
 use Rattle.aip_core.specs.RouterMachine.{RouterState}
 use Rattle.aip_core.specs.Machine.{seat_place}
 use Rattle.aip_core.specs.RouterStands.{RouterStands, RoutersStand}
@@ -35,7 +35,7 @@ none_beside (x ∷ xs) (y ∷ ys) (suc k) same at = none_beside xs ys k (omega a
 
 -- a host of the rules and what is kept of it, or neither
 abbrev pub HostBoth : Topology → List Entry → Option Seat → Option HostState → Type 0
-HostBoth topo tr (Some seat) (Some host) = HostStands topo tr seat host
+HostBoth topo tr (Some seat) (Some host) = HostStandsFor topo tr seat host
 HostBoth topo tr None None = Unit {0}
 HostBoth topo tr (Some seat) None = ⊥
 HostBoth topo tr None (Some host) = ⊥

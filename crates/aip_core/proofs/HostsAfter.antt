@@ -17,14 +17,14 @@ use Rattle.aip_rules.specs.declared.Seat.{Seat}
 use Rattle.aip_rules.specs.declared.StepFault.{StepFault}
 use Rattle.aip_rules.specs.declared.StepFault.TheVariants as fault
 use Rattle.aip_rules.specs.State.{now_of, flights_of}
-use Rattle.aip_rules.specs.Nodes.{seats_of, seat_named, router_named, key_named}
+use Rattle.aip_rules.specs.Nodes.{seats_of, seat_named, place_of_router, key_named}
 use Rattle.aip_rules.specs.Reaction.{nothing, numbered}
 use Rattle.aip_rules.specs.Standing.{standing, lets_act}
 use Rattle.aip_rules.specs.Host.{back_up}
-use Rattle.aip_rules.specs.Step.{has_key, refused_if, after_step, stop_armed, halt_armed, restarted, outcome_of}
+use Rattle.aip_rules.specs.Step.{has_key, refused_if, after_step, armed_with_stop, armed_with_halt, restarted, outcome_of}
 use Rattle.aip_host.specs.Elsewhere.{concerns, resets, AreElsewhere as ConcernNone}
 use Rattle.aip_host.specs.HostState.{HostState}
-use Rattle.aip_host.specs.StandsFor.{DisksServe, StandsFor as HostStands}
+use Rattle.aip_host.specs.StandsFor.{DisksServe, HostStandsFor}
 use Rattle.aip_host.proofs.Corresponds.{follows}
 use Rattle.aip_host.proofs.Inputs.{stops, halts, restarts, others_stay}
 use Rattle.aip_core.specs.Machine.{seat_place}
@@ -69,8 +69,8 @@ events_else topo tr input reaction p seat sound given there untouched =
 
 -- a host that a step doesn't reach stands for the longer trace as it was
 untouched_stands : (topo : Topology) (tr : List Entry) (input : Input) (reaction : Reaction) (number p : ℕ) (seat : Seat) (host : HostState) → IsSound topo → outcome_of topo tr input ≡ Ok reaction
-    → slice_get (seats_of topo) p ≡ Some seat → (host_touched topo (flights_of tr) input ≡ Some p → ⊥) → HostStands topo tr seat host
-    → HostStands topo (after_step tr input (numbered number reaction)) seat host
+    → slice_get (seats_of topo) p ≡ Some seat → (host_touched topo (flights_of tr) input ≡ Some p → ⊥) → HostStandsFor topo tr seat host
+    → HostStandsFor topo (after_step tr input (numbered number reaction)) seat host
 untouched_stands topo tr input reaction number p seat host sound given there untouched stands =
     let unnamed = untouched_name topo (flights_of tr) input p seat sound untouched there in
     others_stay topo tr seat host input (numbered number reaction) stands
@@ -92,12 +92,12 @@ keyed : (test : Bool) → SaysNothing (cond test (Ok nothing) (Err fault.Keyless
 keyed true = refl
 keyed false = tt
 
-stop_says : (topo : Topology) (seat : Option Seat) (call byte : ℕ) → SaysNothing (stop_armed topo seat call byte)
+stop_says : (topo : Topology) (seat : Option Seat) (call byte : ℕ) → SaysNothing (armed_with_stop topo seat call byte)
 stop_says topo None call byte = tt
 stop_says topo (Some seat) call byte =
     unless ((call == 0) || (nat_lt 2 call || nat_le 256 byte)) fault.Range (cond (has_key (key_named topo.parts seat.name)) (Ok nothing) (Err fault.Keyless)) (keyed (has_key (key_named topo.parts seat.name)))
 
-halt_says : (seat : Option Seat) (call byte : ℕ) → SaysNothing (halt_armed seat call byte)
+halt_says : (seat : Option Seat) (call byte : ℕ) → SaysNothing (armed_with_halt seat call byte)
 halt_says None call byte = tt
 halt_says (Some seat) call byte = unless ((call == 0) || (nat_lt 4 call || nat_le 256 byte)) fault.Range (Ok nothing) refl
 
@@ -110,34 +110,34 @@ same_bytes a b e = let same : a ≡ b = cc in (bytes_eq-Decides a b).1 same
 -- the reaction is nothing
 module _ (topo : Topology) (tr : List Entry) (seat : Seat) (old new : HostState) (number : ℕ) (reaction : Reaction) where
   abbrev After : Input → Reaction → Type 0
-  After input r = HostStands topo (after_step tr input (numbered number r)) seat new
+  After input r = HostStandsFor topo (after_step tr input (numbered number r)) seat new
 
-  stopped : (host : List ℕ) (call byte : ℕ) → HostStands topo tr seat old → bytes_eq host seat.name ≡ true → IsStopped (record { call = call; byte = byte }) old new → reaction ≡ nothing
+  stopped : (host : List ℕ) (call byte : ℕ) → HostStandsFor topo tr seat old → bytes_eq host seat.name ≡ true → IsStopped (record { call = call; byte = byte }) old new → reaction ≡ nothing
       → After (Stop host call byte) reaction
   stopped host call byte stands named moves none =
       subst (λ (r : Reaction). After (Stop host call byte) r) (sym none)
-      (subst (λ (s : HostState). HostStands topo (after_step tr (Stop host call byte) []) seat s) (sym moves.stopped)
+      (subst (λ (s : HostState). HostStandsFor topo (after_step tr (Stop host call byte) []) seat s) (sym moves.stopped)
       (stops topo tr seat old host call byte stands named moves.keyed (subst DisksServe moves.stopped moves.disks)))
 
-  halted : (host : List ℕ) (call byte : ℕ) → HostStands topo tr seat old → bytes_eq host seat.name ≡ true → IsHalted (record { call = call; byte = byte }) old new → reaction ≡ nothing
+  halted : (host : List ℕ) (call byte : ℕ) → HostStandsFor topo tr seat old → bytes_eq host seat.name ≡ true → IsHalted (record { call = call; byte = byte }) old new → reaction ≡ nothing
       → After (Halt host call byte) reaction
   halted host call byte stands named moves none =
       subst (λ (r : Reaction). After (Halt host call byte) r) (sym none)
-      (subst (λ (s : HostState). HostStands topo (after_step tr (Halt host call byte) []) seat s) (sym moves.halted)
+      (subst (λ (s : HostState). HostStandsFor topo (after_step tr (Halt host call byte) []) seat s) (sym moves.halted)
       (halts topo tr seat old host call byte stands named (subst DisksServe moves.halted moves.disks)))
 
-  anew : (node : List ℕ) → HostStands topo tr seat old → bytes_eq node seat.name ≡ true → IsAnew old new → reaction ≡ back_up (standing topo tr seat) → After (Restart node) reaction
+  anew : (node : List ℕ) → HostStandsFor topo tr seat old → bytes_eq node seat.name ≡ true → IsAnew old new → reaction ≡ back_up (standing topo tr seat) → After (Restart node) reaction
   anew node stands named moves says =
       subst (λ (r : Reaction). After (Restart node) r) (sym says) (restarts topo tr seat old new node number stands named moves.anew moves.disks)
 
-  acted : (input : Input) → HostStands topo tr seat old → GoesOn (now_of tr) reaction old new → lets_act tr input seat.name ≡ true → After input reaction
+  acted : (input : Input) → HostStandsFor topo tr seat old → GoesOn (now_of tr) reaction old new → lets_act tr input seat.name ≡ true → After input reaction
   acted input stands moves acts = follows topo tr seat old new input number reaction stands moves.follows moves.disks acts
 
 -- the host that a step reaches stands for the longer trace as it moved
 touched_stands : (topo : Topology) (tr : List Entry) (input : Input) (reaction : Reaction) (number p : ℕ) (seat : Seat) (old new : HostState) → outcome_of topo tr input ≡ Ok reaction
     → seat_named (seats_of topo) seat.name ≡ Some seat
-    → host_named_by (flights_of tr) input ≡ Some seat.name → HostStands topo tr seat old → HostMoves (now_of tr) input reaction old new
-    → HostStands topo (after_step tr input (numbered number reaction)) seat new
+    → host_named_by (flights_of tr) input ≡ Some seat.name → HostStandsFor topo tr seat old → HostMoves (now_of tr) input reaction old new
+    → HostStandsFor topo (after_step tr input (numbered number reaction)) seat new
 touched_stands topo tr (Send host node packet body) reaction number p seat old new given found named stands moves =
     acted topo tr seat old new number reaction (Send host node packet body) stands moves (same_bytes host seat.name named)
 touched_stands topo tr (Raw host bytes) reaction number p seat old new given found named stands moves =
@@ -148,15 +148,15 @@ touched_stands topo tr (Deliver flight) reaction number p seat old new given fou
     acted topo tr seat old new number reaction (Deliver flight) stands moves (delivery_acts tr flight seat.name named)
 touched_stands topo tr (Stop host call byte) reaction number p seat old new given found named stands moves =
     stopped topo tr seat old new number reaction host call byte stands (same_bytes host seat.name named) moves
-    (said (stop_armed topo (seat_named (seats_of topo) host) call byte) reaction (stop_says topo (seat_named (seats_of topo) host) call byte) given)
+    (said (armed_with_stop topo (seat_named (seats_of topo) host) call byte) reaction (stop_says topo (seat_named (seats_of topo) host) call byte) given)
 touched_stands topo tr (Halt host call byte) reaction number p seat old new given found named stands moves =
     halted topo tr seat old new number reaction host call byte stands (same_bytes host seat.name named) moves
-    (said (halt_armed (seat_named (seats_of topo) host) call byte) reaction (halt_says (seat_named (seats_of topo) host) call byte) given)
+    (said (armed_with_halt (seat_named (seats_of topo) host) call byte) reaction (halt_says (seat_named (seats_of topo) host) call byte) given)
 touched_stands topo tr (Restart node) reaction number p seat old new given found named stands moves =
     let same : node ≡ seat.name = cc in
     let this : seat_named (seats_of topo) node ≡ Some seat = ap (λ n. seat_named (seats_of topo) n) same ∙ found in
     let says : ◌≡◌ {A = Result Reaction StepFault} (Ok reaction) (Ok (back_up (standing topo tr seat))) =
-    sym given ∙ ap (λ (s : Option Seat). restarted topo tr s (router_named topo.routers node)) this in
+    sym given ∙ ap (λ (s : Option Seat). restarted topo tr s (place_of_router topo.routers node)) this in
     anew topo tr seat old new number reaction node stands (same_bytes node seat.name named) moves cc
 touched_stands topo tr (Tick ticks) reaction number p seat old new given found named stands moves = absurd cc
 touched_stands topo tr (Inject to bytes) reaction number p seat old new given found named stands moves = absurd cc
@@ -195,7 +195,7 @@ hosts_after topo tr old new input reaction number sound given stand moved = reco
   each = λ p seat host there at. at_place p seat host there at (is_here (host_touched topo (flights_of tr) input) p);
 } where
   at_place : (p : ℕ) (seat : Seat) (host : HostState) → slice_get (seats_of topo) p ≡ Some seat → slice_get new p ≡ Some host
-      → (host_touched topo (flights_of tr) input ≡ Some p) ⊎ (host_touched topo (flights_of tr) input ≡ Some p → ⊥) → HostStands topo (after_step tr input (numbered number reaction)) seat host
+      → (host_touched topo (flights_of tr) input ≡ Some p) ⊎ (host_touched topo (flights_of tr) input ≡ Some p → ⊥) → HostStandsFor topo (after_step tr input (numbered number reaction)) seat host
   at_place p seat host there at (inl touched) =
       let before = moved_from HostState (host_touched topo (flights_of tr) input) (HostMoves (now_of tr) input reaction) old new p host moved at in
       let stands = stand.each p seat before.0 there before.1 in
@@ -204,4 +204,4 @@ hosts_after topo tr old new input reaction number sound given stand moved = reco
   at_place p seat host there at (inr untouched) =
       let before = moved_from HostState (host_touched topo (flights_of tr) input) (HostMoves (now_of tr) input reaction) old new p host moved at in
       untouched_stands topo tr input reaction number p seat host sound given there untouched
-      (subst (λ (h : HostState). HostStands topo tr seat h) (before.2 untouched) (stand.each p seat before.0 there before.1))
+      (subst (λ (h : HostState). HostStandsFor topo tr seat h) (before.2 untouched) (stand.each p seat before.0 there before.1))

@@ -17,7 +17,8 @@ use Rattle.aip_addr.specs.declared.ids.Address.{Address}
 use Rattle.aip_topo.specs.declared.topology.Domain.{Domain}
 use Rattle.aip_topo.specs.declared.topology.Router.{Router}
 use Rattle.aip_rules.specs.declared.Seat.{Seat}
-use Rattle.aip_rules.specs.Nodes.{is_same_address, router_named, router_with_address, domain_with_ad}
+use Rattle.aip_addr.specs.Ids.{is_same_address}
+use Rattle.aip_rules.specs.Nodes.{place_of_router, router_with_address, domain_with_ad}
 use Rattle.aip_core.specs.Directory.{name_cmp, id_cmp, address_cmp}
 
 -- the order of lists of bytes finds the same bytes equal
@@ -59,7 +60,7 @@ pub host_by_address : (seats : List Seat) (address : Address)
 host_by_address seats address = at_position (λ (seat : Seat). seat.address) (λ other. is_eq (address_cmp other address)) (λ seat. is_same_address seat.address address) (λ seat. same_address seat.address address) seats
 
 pub router_by_name : (routers : List Router) (name : List ℕ)
-    → position_from (λ other. is_eq (name_cmp other name)) 0 (map (λ router. router.name) routers) ≡ router_named routers name
+    → position_from (λ other. is_eq (name_cmp other name)) 0 (map (λ router. router.name) routers) ≡ place_of_router routers name
 router_by_name routers name = at_position (λ (router : Router). router.name) (λ other. is_eq (name_cmp other name)) (λ router. bytes_eq router.name name) (λ router. same_bytes router.name name) routers
 
 pub router_by_address : (routers : List Router) (address : Address)

@@ -21,7 +21,7 @@ use Rattle.aip_rules.specs.declared.Seat.{Seat}
 use Rattle.aip_rules.specs.declared.StepFault.{StepFault}
 use Rattle.aip_rules.specs.declared.StepFault.TheVariants as fault
 use Rattle.aip_rules.specs.State.{frame_in}
-use Rattle.aip_rules.specs.Nodes.{seats_of, seats_after, router_named, address_named}
+use Rattle.aip_rules.specs.Nodes.{seats_of, seats_after, place_of_router, address_named}
 use Rattle.aip_rules.specs.Reaction.{nothing, in_put, numbered}
 use Rattle.aip_rules.specs.Records.{publishes}
 use Rattle.aip_rules.specs.Host.{put_by, sent_frame}
@@ -35,7 +35,7 @@ use Rattle.aip_rules.proofs.Puts.{short_put, sent_short, injected_modest, flight
 use Rattle.aip_host.specs.HostState.{HostState, key_in, standing_of}
 use Rattle.aip_core.specs.Kept.{Kept}
 use Rattle.aip_core.specs.RouterMachine.{RouterState}
-use Rattle.aip_core.specs.Machine.{AreSeated, seat_place, host_of, kept_sent, kept_raw, kept_heard, kept_shut_with, kept_shut_named, kept_stop, kept_halt, host_outcome, at_host_or, router_reached, port_reached, target_reached, kept_delivered, kept_published, router_restarted, kept_outcome}
+use Rattle.aip_core.specs.Machine.{AreSeated, basis_in, seat_place, host_of, kept_sent, kept_raw, kept_heard, kept_shut_with, kept_shut_named, kept_stop, kept_halt, host_outcome, at_host_or, router_reached, port_reached, target_reached, kept_delivered, kept_published, router_restarted, kept_outcome}
 use Rattle.aip_core.specs.Moves.{IsKeptStep, kept_after}
 use Rattle.aip_core.proofs.RouterModest.{place_modest}
 
@@ -115,14 +115,14 @@ at_host_modest_or other kept input (Some host) sound modest s = host_modest kept
 reached_modest : (kept : Kept) (place port : ℕ) (bytes : List ℕ) (state : Option RouterState) → IsSound kept.topo → IsModest (router_reached kept place port bytes state)
 reached_modest kept place port bytes None sound = nothing_modest
 reached_modest kept place port bytes (Some state) sound =
-    place_modest kept.topo kept.links kept.records state kept.ticks place (slice_get kept.topo.routers place) port bytes (router_at_sized kept.topo place sound)
+    place_modest (basis_in kept state) place (slice_get kept.topo.routers place) port bytes (router_at_sized kept.topo place sound)
 
 port_modest : (kept : Kept) (place : Option ℕ) (port : ℕ) (bytes : List ℕ) → IsSound kept.topo → IsModest (port_reached kept place port bytes)
 port_modest kept None port bytes sound = nothing_modest
 port_modest kept (Some place) port bytes sound = reached_modest kept place port bytes (slice_get kept.routers place) sound
 
 target_modest : (kept : Kept) (input : Input) (to : Target) (bytes : List ℕ) → IsSound kept.topo → AreSeated kept.topo kept.hosts → IsModestOutcome (target_reached kept input to bytes)
-target_modest kept input (target.Port name port) bytes sound seated = port_modest kept (router_named kept.topo.routers name) port bytes sound
+target_modest kept input (target.Port name port) bytes sound seated = port_modest kept (place_of_router kept.topo.routers name) port bytes sound
 target_modest kept input (target.Host name) bytes sound seated = at_host_modest_or (Ok nothing) kept input (host_of kept name) sound nothing_modest (host_sized kept name sound seated)
 
 delivered_modest : (kept : Kept) (input : Input) (flight : Option Flight) → IsSound kept.topo → AreSeated kept.topo kept.hosts → IsModestOutcome (kept_delivered kept input flight)
@@ -148,7 +148,7 @@ outcome_modest kept (Cut link) sound seated = where_allowed (nat_lt link (length
 outcome_modest kept (Mend link) sound seated = where_allowed (nat_lt link (length kept.links)) fault.Range (Ok nothing) (λ e. nothing_modest)
 outcome_modest kept (Shutoff host flight ttl) sound seated = at_host_modest_or (Err fault.Unknown) kept (Shutoff host flight ttl) (host_of kept host) sound tt (host_sized kept host sound seated)
 outcome_modest kept (Restart node) sound seated =
-    at_host_modest_or (router_restarted (router_named kept.topo.routers node)) kept (Restart node) (host_of kept node) sound (restarted_modest (router_named kept.topo.routers node)) (host_sized kept node sound seated)
+    at_host_modest_or (router_restarted (place_of_router kept.topo.routers node)) kept (Restart node) (host_of kept node) sound (restarted_modest (place_of_router kept.topo.routers node)) (host_sized kept node sound seated)
 outcome_modest kept (Stop host call byte) sound seated = at_host_modest_or (Err fault.Unknown) kept (Stop host call byte) (host_of kept host) sound tt (host_sized kept host sound seated)
 outcome_modest kept (Halt host call byte) sound seated = at_host_modest_or (Err fault.Unknown) kept (Halt host call byte) (host_of kept host) sound tt (host_sized kept host sound seated)
 outcome_modest kept (Publish bytes) sound seated = published_modest kept.records bytes

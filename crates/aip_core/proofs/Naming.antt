@@ -2,7 +2,7 @@
 use Rattle.std.proofs.Common.{◌≡◌, ℕ, ◌&&◌, Bool, true, false, cond, not, ◌==◌, List, [], ◌∷◌, Option, Some, None, refl, sym, subst, ap}
 use Rattle.std.specs.Prelude.{nat_le}
 use Rattle.std.specs.Str.{bytes_eq}
-use Rattle.aip_addr.specs.Ids.{key_id_of}
+use Rattle.aip_addr.specs.Ids.{key_id_of, is_same_address}
 use Rattle.aip_addr.specs.declared.ids.KeyId.{KeyId}
 use Rattle.aip_frame.specs.declared.frame.Frame.{Frame}
 use Rattle.aip_frame.specs.declared.frame.Kind.{Kind}
@@ -22,19 +22,20 @@ use Rattle.verify_packet.specs.declared.challenges.RouterKey.{RouterKey}
 use Rattle.verify_packet.specs.declared.responses.Checked.{Checked}
 use Rattle.verify_packet.specs.declared.responses.Checked.TheVariants as checked
 use Rattle.shutoff_filter.specs.Body.{shutoff_text_of}
-use Rattle.shutoff_filter.specs.declared.entries.Entry.{Entry as ShutOffEntry}
+use Rattle.shutoff_filter.specs.declared.entries.ShutOffEntry.{ShutOffEntry as ShutOffEntry}
 use Rattle.shutoff_filter.specs.declared.judging.Heard.{Heard}
 use Rattle.shutoff_filter.specs.declared.judging.Heard.TheVariants as heard
 use Rattle.aip_rules.specs.declared.Entry.{Entry}
 use Rattle.aip_rules.specs.declared.Arming.{Arming}
 use Rattle.aip_rules.specs.declared.Reaction.{Reaction}
+use Rattle.aip_rules.specs.declared.Verdict.{Verdict}
+use Rattle.aip_rules.specs.declared.Verdict.TheVariants.{Forwards, Foreign, Asks}
 use Rattle.aip_rules.specs.State.{now_of, restarts_of}
-use Rattle.aip_rules.specs.Nodes.{is_same_address}
 use Rattle.aip_rules.specs.Reaction.{nothing, dropped, happens, puts}
 use Rattle.aip_rules.specs.Routes.{port_to}
 use Rattle.aip_rules.specs.Standing.{Standing}
 use Rattle.aip_rules.specs.Host.{withheld_key, handed_to, handed_down, put_by, Signing, Dry, Stops, Signs, signing, signed, answer_frame, shutoff_frame, shut_by, answered, challenged, hearing, outlasts, obeyed_by, heard_by, kind_at_host, taken_at_host, at_host, kept_events, back_up}
-use Rattle.aip_rules.specs.Router.{Arrival, Verdict, Forwards, Foreign, Asks, forwarded, asked, verdict_at, by_verdict, is_challenge, is_response, checked_frame, passed, proved, refused, responded, makes_wildcard, router_key, own_frame, frame_at_router, taken_at_router, at_router}
+use Rattle.aip_rules.specs.Router.{Arrival, forwarded, asked, verdict_at, by_verdict, is_challenge, is_response, checked_frame, passed, proved, refused, responded, makes_wildcard, router_key, own_frame, frame_at_router, taken_at_router, at_router}
 
 -- the node that an event names, if it names one
 abbrev pub node_of : Event → Option (List ℕ)

@@ -18,19 +18,19 @@ use Rattle.aip_rules.specs.declared.Seat.{Seat}
 use Rattle.aip_rules.specs.declared.StepFault.{StepFault}
 use Rattle.aip_rules.specs.declared.StepFault.TheVariants as fault
 use Rattle.aip_rules.specs.State.{now_of, input_count, flights_of, flight_at, frame_in}
-use Rattle.aip_rules.specs.Nodes.{seats_of, seat_named, router_named, address_named, key_named}
+use Rattle.aip_rules.specs.Nodes.{seats_of, seat_named, place_of_router, address_named, key_named}
 use Rattle.aip_rules.specs.Routes.{links_now}
 use Rattle.aip_rules.specs.Reaction.{nothing}
 use Rattle.aip_rules.specs.Records.{records_kept}
 use Rattle.aip_rules.specs.Standing.{standing}
 use Rattle.aip_rules.specs.Host.{at_host, back_up, put_by, sent_frame, shut_by}
 use Rattle.aip_rules.specs.Router.{Arrival}
-use Rattle.aip_rules.specs.Step.{can_be_put, has_key, most_inputs, refused_if, sent, put_raw, arrives_at_router, arrives_at_port, arrives_at_seat, arrives, delivered, relinked, shut_with, shut_named, shut_off, restarted, stop_armed, halt_armed, outcome_of, reaction_of}
+use Rattle.aip_rules.specs.Step.{can_be_put, has_key, most_inputs, refused_if, sent, put_raw, arrives_at_router, arrives_at_port, arrives_at_seat, arrives, delivered, relinked, shut_with, shut_named, shut_off, restarted, armed_with_stop, armed_with_halt, outcome_of, reaction_of}
 use Rattle.aip_host.specs.HostState.{HostState, key_in, standing_of}
-use Rattle.aip_host.specs.StandsFor.{StandsFor as HostStands}
+use Rattle.aip_host.specs.StandsFor.{HostStandsFor}
 use Rattle.aip_core.specs.Kept.{Kept}
 use Rattle.aip_core.specs.RouterMachine.{RouterState, kept_at_place}
-use Rattle.aip_core.specs.Machine.{host_of, kept_sent, kept_raw, kept_heard, kept_shut_with, kept_shut_named, kept_stop, kept_halt, host_outcome, at_host_or, router_reached, port_reached, target_reached, kept_delivered, kept_relinked, router_restarted, kept_outcome, kept_reaction}
+use Rattle.aip_core.specs.Machine.{basis_in, host_of, kept_sent, kept_raw, kept_heard, kept_shut_with, kept_shut_named, kept_stop, kept_halt, host_outcome, at_host_or, router_reached, port_reached, target_reached, kept_delivered, kept_relinked, router_restarted, kept_outcome, kept_reaction}
 use Rattle.aip_core.specs.RouterStands.{RoutersStand}
 use Rattle.aip_core.specs.StandsFor.{HostsStand, StandsFor}
 use Rattle.aip_host.proofs.Corresponds.{arrives_as, puts_as, shuts_as, restarts_as}
@@ -51,7 +51,7 @@ kept_of topo tr hosts routers = record {
   inputs = input_count tr;
 }
 
-sent_here : (topo : Topology) (tr : List Entry) (seat : Seat) (host : HostState) (to : Option Address) (packet : ℕ) (body : List ℕ) → HostStands topo tr seat host
+sent_here : (topo : Topology) (tr : List Entry) (seat : Seat) (host : HostState) (to : Option Address) (packet : ℕ) (body : List ℕ) → HostStandsFor topo tr seat host
     → kept_sent (now_of tr) host to packet body ≡ sent topo tr (Some seat) to packet body
 sent_here topo tr seat host None packet body h = refl
 sent_here topo tr seat host (Some to) packet body h =
@@ -79,12 +79,12 @@ raw_is topo tr hosts routers name bytes (Some seat) (Some host) h =
 raw_is topo tr hosts routers name bytes None (Some host) h = absurd h
 raw_is topo tr hosts routers name bytes (Some seat) None h = absurd h
 
-shut_with_is : (topo : Topology) (tr : List Entry) (seat : Seat) (host : HostState) (named : Frame) (ttl : ℕ) (key : Option Key) → HostStands topo tr seat host
+shut_with_is : (topo : Topology) (tr : List Entry) (seat : Seat) (host : HostState) (named : Frame) (ttl : ℕ) (key : Option Key) → HostStandsFor topo tr seat host
     → kept_shut_with (now_of tr) host named ttl key ≡ shut_with topo tr seat named ttl key
 shut_with_is topo tr seat host named ttl None h = refl
 shut_with_is topo tr seat host named ttl (Some key) h = ap (λ (r : Reaction). Ok r) (shuts_as topo tr seat host h key named ttl)
 
-shut_named_is : (topo : Topology) (tr : List Entry) (seat : Seat) (host : HostState) (named : Option Frame) (ttl : ℕ) → HostStands topo tr seat host
+shut_named_is : (topo : Topology) (tr : List Entry) (seat : Seat) (host : HostState) (named : Option Frame) (ttl : ℕ) → HostStandsFor topo tr seat host
     → kept_shut_named (now_of tr) host named ttl ≡ shut_named topo tr seat named ttl
 shut_named_is topo tr seat host None ttl h = refl
 shut_named_is topo tr seat host (Some named) ttl h =
@@ -114,7 +114,7 @@ restart_is topo tr hosts routers node router (Some seat) None h = absurd h
 
 stop_is : (topo : Topology) (tr : List Entry) (hosts : List HostState) (routers : List RouterState) (name : List ℕ) (call byte : ℕ) (seat : Option Seat) (host : Option HostState)
     → HostBoth topo tr seat host
-    → at_host_or (Err fault.Unknown) (kept_of topo tr hosts routers) (Stop name call byte) host ≡ stop_armed topo seat call byte
+    → at_host_or (Err fault.Unknown) (kept_of topo tr hosts routers) (Stop name call byte) host ≡ armed_with_stop topo seat call byte
 stop_is topo tr hosts routers name call byte None None h = refl
 stop_is topo tr hosts routers name call byte (Some seat) (Some host) h =
     ap (λ (k : Option Key). refused_if ((call == 0) || (nat_lt 2 call || nat_le 256 byte)) fault.Range (cond (has_key k) (Ok nothing) (Err fault.Keyless))) h.key
@@ -123,7 +123,7 @@ stop_is topo tr hosts routers name call byte (Some seat) None h = absurd h
 
 halt_is : (topo : Topology) (tr : List Entry) (hosts : List HostState) (routers : List RouterState) (name : List ℕ) (call byte : ℕ) (seat : Option Seat) (host : Option HostState)
     → HostBoth topo tr seat host
-    → at_host_or (Err fault.Unknown) (kept_of topo tr hosts routers) (Halt name call byte) host ≡ halt_armed seat call byte
+    → at_host_or (Err fault.Unknown) (kept_of topo tr hosts routers) (Halt name call byte) host ≡ armed_with_halt seat call byte
 halt_is topo tr hosts routers name call byte None None h = refl
 halt_is topo tr hosts routers name call byte (Some seat) (Some host) h = refl
 halt_is topo tr hosts routers name call byte None (Some host) h = absurd h
@@ -131,7 +131,7 @@ halt_is topo tr hosts routers name call byte (Some seat) None h = absurd h
 
 -- ---- deliveries
 
-heard_here : (topo : Topology) (tr : List Entry) (seat : Seat) (host : HostState) (found : Option Flight) (flight : Flight) → found ≡ Some flight → HostStands topo tr seat host
+heard_here : (topo : Topology) (tr : List Entry) (seat : Seat) (host : HostState) (found : Option Flight) (flight : Flight) → found ≡ Some flight → HostStandsFor topo tr seat host
     → kept_heard (now_of tr) host found ≡ Ok (at_host (standing topo tr seat) flight.bytes)
 heard_here topo tr seat host found flight is h =
     ap (λ (o : Option Flight). kept_heard (now_of tr) host o) is ∙ ap (λ (r : Reaction). Ok r) (arrives_as topo tr seat host h flight.bytes)
@@ -149,8 +149,8 @@ reached_at : (topo : Topology) (tr : List Entry) (hosts : List HostState) (route
     → router_reached (kept_of topo tr hosts routers) place port bytes state ≡ arrives_at_router topo tr place self port bytes
 reached_at topo tr hosts routers place port bytes None None at h = refl
 reached_at topo tr hosts routers place port bytes (Some self) (Some state) at h =
-    ap (λ (o : Option Router). kept_at_place topo (links_now topo tr) (records_kept tr) state (now_of tr) place o port bytes) at
-    ∙ reacts topo tr state (record { place = place; self = self; port = port }) h (links_now topo tr) (records_kept tr) (now_of tr) bytes refl refl refl
+    ap (λ (o : Option Router). kept_at_place (basis_in (kept_of topo tr hosts routers) state) place o port bytes) at
+    ∙ reacts topo tr (basis_in (kept_of topo tr hosts routers) state) (record { place = place; self = self; port = port }) h bytes refl refl refl refl
 reached_at topo tr hosts routers place port bytes None (Some state) at h = absurd h
 reached_at topo tr hosts routers place port bytes (Some self) None at h = absurd h
 
@@ -163,7 +163,7 @@ port_is topo tr hosts routers (Some place) port bytes h =
 target_is : (topo : Topology) (tr : List Entry) (hosts : List HostState) (routers : List RouterState) (number : ℕ) (flight : Flight) (to : Target)
     → flight_at tr number ≡ Some flight → HostsStand topo tr hosts → RoutersStand topo tr routers
     → target_reached (kept_of topo tr hosts routers) (Deliver number) to flight.bytes ≡ Ok (arrives topo tr to flight.bytes)
-target_is topo tr hosts routers number flight (target.Port name port) is h r = ap (λ (x : Reaction). Ok x) (port_is topo tr hosts routers (router_named topo.routers name) port flight.bytes r)
+target_is topo tr hosts routers number flight (target.Port name port) is h r = ap (λ (x : Reaction). Ok x) (port_is topo tr hosts routers (place_of_router topo.routers name) port flight.bytes r)
 target_is topo tr hosts routers number flight (target.Host name) is h r =
     host_reached topo tr hosts routers number flight (seat_named (seats_of topo) name) (host_of (kept_of topo tr hosts routers) name) is (host_found topo tr hosts name h)
 
@@ -193,7 +193,7 @@ outcome_is topo tr hosts routers (Mend link) h r = relinked_is topo tr link
 outcome_is topo tr hosts routers (Shutoff host flight ttl) h r =
     shut_off_is topo tr hosts routers host flight ttl (seat_named (seats_of topo) host) (host_of (kept_of topo tr hosts routers) host) (host_found topo tr hosts host h)
 outcome_is topo tr hosts routers (Restart node) h r =
-    restart_is topo tr hosts routers node (router_named topo.routers node) (seat_named (seats_of topo) node) (host_of (kept_of topo tr hosts routers) node) (host_found topo tr hosts node h)
+    restart_is topo tr hosts routers node (place_of_router topo.routers node) (seat_named (seats_of topo) node) (host_of (kept_of topo tr hosts routers) node) (host_found topo tr hosts node h)
 outcome_is topo tr hosts routers (Stop host call byte) h r =
     stop_is topo tr hosts routers host call byte (seat_named (seats_of topo) host) (host_of (kept_of topo tr hosts routers) host) (host_found topo tr hosts host h)
 outcome_is topo tr hosts routers (Halt host call byte) h r =

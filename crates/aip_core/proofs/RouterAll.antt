@@ -14,19 +14,17 @@ use Rattle.aip_event.specs.declared.input.Input.TheVariants.{Deliver, Restart}
 use Rattle.aip_topo.specs.Sound.{IsSound}
 use Rattle.aip_topo.specs.declared.topology.Router.{Router}
 use Rattle.aip_topo.specs.declared.topology.Topology.{Topology}
-use Rattle.domain_routes.specs.declared.Edge.{Edge}
-use Rattle.aip_registry.specs.declared.records.Record.{Record}
 use Rattle.aip_rules.specs.declared.Entry.{Entry}
 use Rattle.aip_rules.specs.declared.Flight.{Flight}
 use Rattle.aip_rules.specs.declared.Reaction.{Reaction}
-use Rattle.aip_rules.specs.Nodes.{router_named}
+use Rattle.aip_rules.specs.Nodes.{place_of_router}
 use Rattle.aip_rules.specs.Reaction.{numbered}
 use Rattle.aip_rules.specs.Records.{records_kept}
 use Rattle.aip_rules.specs.Router.{Arrival, at_router}
 use Rattle.aip_rules.specs.Routes.{links_now}
 use Rattle.aip_rules.specs.State.{now_of, flight_at, is_restart_of}
 use Rattle.aip_rules.specs.Step.{after_step}
-use Rattle.aip_core.specs.RouterMachine.{RouterState, router_at_start, started_anew, kept_at_router, after_arrival}
+use Rattle.aip_core.specs.RouterMachine.{Basis, RouterState, router_at_start, started_anew, kept_at_router, after_arrival}
 use Rattle.aip_core.specs.RouterStands.{RouterStands, RoutersStand, AreNoUses}
 use Rattle.aip_core.proofs.RouterNames.{names_apart, turned}
 use Rattle.aip_core.proofs.RouterOthers.{numbered_unused, elsewhere_unused}
@@ -80,20 +78,20 @@ some_same : (a b : Router) → Some a ≡ Some b → a ≡ b
 some_same a b e = cc
 
 -- a delivery to a port of one router
-pub one_takes : (topo : Topology) (states : List RouterState) (tr : List Entry) (at : Arrival) (state : RouterState) (links : List Edge) (records : List Record) (now n k : ℕ) (flight : Flight) (bytes : List ℕ)
-    → IsSound topo → slice_get topo.routers at.place ≡ Some at.self → slice_get states at.place ≡ Some state
-    → links ≡ links_now topo tr → records ≡ records_kept tr → now ≡ now_of tr → flight_at tr k ≡ Some flight → flight.bytes ≡ bytes → RoutersStand topo tr states
-    → RoutersStand topo (after_step tr (Deliver k) (numbered n (kept_at_router topo links records state now at bytes))) (set states at.place (after_arrival topo links records state now at bytes))
-one_takes topo states tr at state links records now n k flight bytes sound here there over kept time put same stand =
-    let stands = stand.each at.place at.self state here there in
-    one_moves topo states at.place (after_arrival topo links records state now at bytes) tr _
+pub one_takes : (topo : Topology) (states : List RouterState) (tr : List Entry) (at : Arrival) (basis : Basis) (n k : ℕ) (flight : Flight) (bytes : List ℕ)
+    → IsSound topo → slice_get topo.routers at.place ≡ Some at.self → slice_get states at.place ≡ Some basis.state → basis.topo ≡ topo
+    → basis.links ≡ links_now topo tr → basis.records ≡ records_kept tr → basis.now ≡ now_of tr → flight_at tr k ≡ Some flight → flight.bytes ≡ bytes → RoutersStand topo tr states
+    → RoutersStand topo (after_step tr (Deliver k) (numbered n (kept_at_router basis at bytes))) (set states at.place (after_arrival basis at bytes))
+one_takes topo states tr at basis n k flight bytes sound here there on over kept time put same stand =
+    let stands = stand.each at.place at.self basis.state here there in
+    one_moves topo states at.place (after_arrival basis at bytes) tr _
     (λ self found.
     let is : at.self ≡ self = some_same at.self self (sym here ∙ found) in
-    subst (λ (r : Router). RouterStands topo (after_step tr (Deliver k) (numbered n (kept_at_router topo links records state now at bytes))) r (after_arrival topo links records state now at bytes)) is
-    (stays topo tr at state links records now n k flight bytes stands time put same))
+    subst (λ (r : Router). RouterStands topo (after_step tr (Deliver k) (numbered n (kept_at_router basis at bytes))) r (after_arrival basis at bytes)) is
+    (stays topo tr at basis n k flight bytes stands on time put same))
     (λ place self other ne found before.
-    others_stay topo self other (Deliver k) (numbered n (kept_at_router topo links records state now at bytes)) tr refl
-    (subst (λ (reaction : Reaction). AreNoUses self.name (numbered n reaction)) (sym (reacts topo tr state at stands links records now bytes over kept time))
+    others_stay topo self other (Deliver k) (numbered n (kept_at_router basis at bytes)) tr refl
+    (subst (λ (reaction : Reaction). AreNoUses self.name (numbered n reaction)) (sym (reacts topo tr basis at stands bytes on over kept time))
     (numbered_unused self.name n (at_router topo tr at bytes)
     (elsewhere_unused topo tr self.name at (names_apart topo at.place place at.self self sound (λ e. ne (sym e)) here found) bytes)))
     before)
@@ -102,7 +100,7 @@ one_takes topo states tr at state links records now n k flight bytes sound here 
 -- ---- a restart
 
 -- the input is a restart by the name that a router is found by, so it starts that router anew
-found_restarts : (routers : List Router) (node : List ℕ) (at : ℕ) (self : Router) → router_named routers node ≡ Some at → slice_get routers at ≡ Some self → node ≡ self.name
+found_restarts : (routers : List Router) (node : List ℕ) (at : ℕ) (self : Router) → place_of_router routers node ≡ Some at → slice_get routers at ≡ Some self → node ≡ self.name
 found_restarts routers node at self found here =
     let has = position-Some (λ (router : Router). bytes_eq router.name node) routers at self found in
     let is : get_or routers at self ≡ self = get_or_from_slice_get routers at self self here in
@@ -128,7 +126,7 @@ none_from (router ∷ routers) node from place self none here =
 
 -- a restart of one router, with events that use nothing at any
 pub one_restarts : (topo : Topology) (states : List RouterState) (tr : List Entry) (node : List ℕ) (at : ℕ) (self : Router) (state : RouterState) (events : List Event)
-    → IsSound topo → router_named topo.routers node ≡ Some at → slice_get topo.routers at ≡ Some self → slice_get states at ≡ Some state
+    → IsSound topo → place_of_router topo.routers node ≡ Some at → slice_get topo.routers at ≡ Some self → slice_get states at ≡ Some state
     → ((name : List ℕ) → AreNoUses name events) → RoutersStand topo tr states
     → RoutersStand topo (after_step tr (Restart node) events) (set states at (started_anew state))
 one_restarts topo states tr node at self state events sound found here there none stand =
@@ -146,7 +144,7 @@ one_restarts topo states tr node at self state events sound found here there non
 
 -- a restart of no router, with events that use nothing at any
 pub none_restarts : (topo : Topology) (states : List RouterState) (tr : List Entry) (node : List ℕ) (events : List Event)
-    → router_named topo.routers node ≡ None → ((name : List ℕ) → AreNoUses name events) → RoutersStand topo tr states
+    → place_of_router topo.routers node ≡ None → ((name : List ℕ) → AreNoUses name events) → RoutersStand topo tr states
     → RoutersStand topo (after_step tr (Restart node) events) states
 none_restarts topo states tr node events none_found none stand =
     let nowhere : position_from (λ (router : Router). bytes_eq router.name node) 0 topo.routers ≡ None =

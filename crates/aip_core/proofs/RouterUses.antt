@@ -12,7 +12,7 @@ use Rattle.accept_cache.specs.Accepted.{PairUses, WildcardUses}
 use Rattle.accept_cache.specs.Kept.{HasRoom}
 use Rattle.accept_cache.specs.Recency.{Proved as ProvedUse}
 use Rattle.accept_cache.specs.Keys.{pair_of, wildcard_of}
-use Rattle.accept_cache.specs.StandsFor.{StandsFor as AcceptsBy}
+use Rattle.accept_cache.specs.StandsFor.{CacheStandsFor}
 use Rattle.accept_cache.proofs.Laws.{nothing_stands}
 use Rattle.aip_rules.specs.declared.Entry.{Entry}
 use Rattle.aip_rules.specs.declared.Entry.TheVariants.{Taken, Happened}
@@ -62,9 +62,9 @@ wilds_same (Forward router port out cause) tr name e = ap (λ b. cond b (hit_of_
 wilds_same event tr name e = refl
 
 -- the cache accepts by uses that are the same
-pub accepts_same : (state : RouterState) (uses others : PairUses) (wilds more : WildcardUses) → uses ≡ others → wilds ≡ more → AcceptsBy uses wilds state.cache → AcceptsBy others more state.cache
+pub accepts_same : (state : RouterState) (uses others : PairUses) (wilds more : WildcardUses) → uses ≡ others → wilds ≡ more → CacheStandsFor uses wilds state.cache → CacheStandsFor others more state.cache
 accepts_same state uses others wilds more pairs doms h =
-    subst (λ (ws : WildcardUses). AcceptsBy others ws state.cache) doms (subst (λ (us : PairUses). AcceptsBy us wilds state.cache) pairs h)
+    subst (λ (ws : WildcardUses). CacheStandsFor others ws state.cache) doms (subst (λ (us : PairUses). CacheStandsFor us wilds state.cache) pairs h)
 
 module _ (topo : Topology) (self : Router) (state : RouterState) where
   -- an event that uses nothing at the router leaves what it keeps standing

@@ -3,7 +3,6 @@ use Rattle.std.proofs.Common.{◌≡◌, ℕ, ◌⊎◌, inl, inr, Bool, true, f
 use Rattle.std.specs.Prelude.{IfOk, slice_get, option_and_then, position}
 use Rattle.std.specs.Str.{bytes_eq}
 use Rattle.std.proofs.lemmas.Slice.Eq.{bytes_eq-Decides}
-use Rattle.domain_routes.specs.declared.Edge.{Edge}
 use Rattle.aip_event.specs.declared.event.Event.{Event}
 use Rattle.aip_event.specs.declared.event.Event.TheVariants as event
 use Rattle.aip_event.specs.declared.input.Input.{Input}
@@ -18,15 +17,13 @@ use Rattle.aip_rules.specs.declared.Flight.{Flight}
 use Rattle.aip_rules.specs.declared.Reaction.{Reaction}
 use Rattle.aip_rules.specs.declared.Seat.{Seat}
 use Rattle.aip_rules.specs.declared.StepFault.{StepFault}
-use Rattle.aip_rules.specs.State.{now_of, flights_of, flight_at, is_restart_of}
-use Rattle.aip_rules.specs.Nodes.{seats_of, router_named}
-use Rattle.aip_rules.specs.Routes.{links_now}
+use Rattle.aip_rules.specs.State.{flights_of, flight_at, is_restart_of}
+use Rattle.aip_rules.specs.Nodes.{seats_of, place_of_router}
 use Rattle.aip_rules.specs.Reaction.{numbered}
-use Rattle.aip_rules.specs.Records.{records_kept}
 use Rattle.aip_rules.specs.Router.{Arrival}
 use Rattle.aip_rules.specs.Step.{after_step, outcome_of}
 use Rattle.aip_host.specs.HostState.{HostState}
-use Rattle.aip_core.specs.Machine.{seat_place, router_reached, port_reached, target_reached, kept_delivered, kept_outcome}
+use Rattle.aip_core.specs.Machine.{basis_in, seat_place, router_reached, port_reached, target_reached, kept_delivered, kept_outcome}
 use Rattle.aip_core.specs.Moves.{MovesAt, RouterMoves, after_flight, after_target, anew_at, anew_if, host_touched, router_at, router_touched, router_unless, routers_with}
 use Rattle.aip_core.specs.RouterMachine.{RouterState, after_arrival, after_place, kept_at_place, kept_at_router, started_anew}
 use Rattle.aip_core.specs.RouterStands.{RouterStands, RoutersStand, AreNoUses, is_use_of}
@@ -71,37 +68,37 @@ crossed_port : (topo : Topology) (tr : List Entry) (hosts : List HostState) (rou
     (flight : Flight) (port : ℕ) (place : Option ℕ) → flight_at tr number ≡ Some flight
     → port_reached (kept_of topo tr hosts routers) place port flight.bytes ≡ reaction → place ≡ Some p
     → slice_get topo.routers p ≡ Some self → slice_get routers p ≡ Some old
-    → new ≡ after_place topo (links_now topo tr) (records_kept tr) old (now_of tr) p (slice_get topo.routers p) port flight.bytes → RouterStands topo tr self old
+    → new ≡ after_place (basis_in (kept_of topo tr hosts routers) old) p (slice_get topo.routers p) port flight.bytes → RouterStands topo tr self old
     → RouterStands topo (after_step tr (Deliver number) (numbered n reaction)) self new
 crossed_port topo tr hosts routers number n p self old new reaction flight port place put given named there at moves stands =
     let at_port : Arrival = record { place = p; self = self; port = port } in
     let kept = kept_of topo tr hosts routers in
-    let here : port_reached kept place port flight.bytes ≡ kept_at_router topo (links_now topo tr) (records_kept tr) old (now_of tr) at_port flight.bytes =
+    let here : port_reached kept place port flight.bytes ≡ kept_at_router (basis_in kept old) at_port flight.bytes =
     ap (λ (o : Option ℕ). port_reached kept o port flight.bytes) named
     ∙ ap (λ (o : Option RouterState). router_reached kept p port flight.bytes o) at
-    ∙ ap (λ (o : Option Router). kept_at_place topo (links_now topo tr) (records_kept tr) old (now_of tr) p o port flight.bytes) there in
-    let after : new ≡ after_arrival topo (links_now topo tr) (records_kept tr) old (now_of tr) at_port flight.bytes =
-    moves ∙ ap (λ (o : Option Router). after_place topo (links_now topo tr) (records_kept tr) old (now_of tr) p o port flight.bytes) there in
+    ∙ ap (λ (o : Option Router). kept_at_place (basis_in kept old) p o port flight.bytes) there in
+    let after : new ≡ after_arrival (basis_in kept old) at_port flight.bytes =
+    moves ∙ ap (λ (o : Option Router). after_place (basis_in kept old) p o port flight.bytes) there in
     subst (λ (s : RouterState). RouterStands topo (after_step tr (Deliver number) (numbered n reaction)) self s) (sym after)
-    (subst (λ (r : Reaction). RouterStands topo (after_step tr (Deliver number) (numbered n r)) self (after_arrival topo (links_now topo tr) (records_kept tr) old (now_of tr) at_port flight.bytes)) (sym here ∙ given)
-    (stays topo tr at_port old (links_now topo tr) (records_kept tr) (now_of tr) n number flight flight.bytes stands refl put refl))
+    (subst (λ (r : Reaction). RouterStands topo (after_step tr (Deliver number) (numbered n r)) self (after_arrival (basis_in kept old) at_port flight.bytes)) (sym here ∙ given)
+    (stays topo tr at_port (basis_in kept old) n number flight flight.bytes stands refl refl put refl))
 
 crossed_target : (topo : Topology) (tr : List Entry) (hosts : List HostState) (routers : List RouterState) (number n p : ℕ) (self : Router) (old new : RouterState) (reaction : Reaction)
     (flight : Flight) (to : Target) → flight_at tr number ≡ Some flight
     → target_reached (kept_of topo tr hosts routers) (Deliver number) to flight.bytes ≡ Ok reaction
-    → option_and_then (λ name. router_named topo.routers name) (router_at to) ≡ Some p
+    → option_and_then (λ name. place_of_router topo.routers name) (router_at to) ≡ Some p
     → slice_get topo.routers p ≡ Some self → slice_get routers p ≡ Some old
     → new ≡ after_target (kept_of topo tr hosts routers) p old to flight.bytes → RouterStands topo tr self old
     → RouterStands topo (after_step tr (Deliver number) (numbered n reaction)) self new
 crossed_target topo tr hosts routers number n p self old new reaction flight (target.Host name) put given named there at moves stands = absurd cc
 crossed_target topo tr hosts routers number n p self old new reaction flight (target.Port name port) put given named there at moves stands =
-    let is : port_reached (kept_of topo tr hosts routers) (router_named topo.routers name) port flight.bytes ≡ reaction = cc in
-    crossed_port topo tr hosts routers number n p self old new reaction flight port (router_named topo.routers name) put is named there at moves stands
+    let is : port_reached (kept_of topo tr hosts routers) (place_of_router topo.routers name) port flight.bytes ≡ reaction = cc in
+    crossed_port topo tr hosts routers number n p self old new reaction flight port (place_of_router topo.routers name) put is named there at moves stands
 
 crossed : (topo : Topology) (tr : List Entry) (hosts : List HostState) (routers : List RouterState) (number n p : ℕ) (self : Router) (old new : RouterState) (reaction : Reaction)
     (flight : Option Flight) → flight_at tr number ≡ flight
     → kept_delivered (kept_of topo tr hosts routers) (Deliver number) flight ≡ Ok reaction
-    → option_and_then (λ name. router_named topo.routers name) (option_and_then (λ f. router_at f.target) flight) ≡ Some p
+    → option_and_then (λ name. place_of_router topo.routers name) (option_and_then (λ f. router_at f.target) flight) ≡ Some p
     → slice_get topo.routers p ≡ Some self → slice_get routers p ≡ Some old
     → new ≡ after_flight (kept_of topo tr hosts routers) p old flight → RouterStands topo tr self old
     → RouterStands topo (after_step tr (Deliver number) (numbered n reaction)) self new
@@ -145,7 +142,7 @@ is_started topo tr node reaction n p self state sound given there named stands =
 
 -- what stands at a place of a list once one of them started anew
 anew_stands : (topo : Topology) (tr : List Entry) (states : List RouterState) (node : List ℕ) (reaction : Reaction) (n p q : ℕ) (self : Router) (new : RouterState) (b : (q ≡ p) ⊎ (q ≡ p → ⊥))
-    → IsSound topo → outcome_of topo tr (Restart node) ≡ Ok reaction → RoutersStand topo tr states → router_named topo.routers node ≡ Some q
+    → IsSound topo → outcome_of topo tr (Restart node) ≡ Ok reaction → RoutersStand topo tr states → place_of_router topo.routers node ≡ Some q
     → slice_get topo.routers p ≡ Some self → slice_get (anew_at states q) p ≡ Some new → RouterStands topo (after_step tr (Restart node) (numbered n reaction)) self new
 anew_stands topo tr states node reaction n p q self new (inl same) sound given stand named there at =
     let old = beside topo.routers states p self stand.all there in
@@ -167,7 +164,7 @@ same_place q p = from (is_here (Some q) p) where
   from (inr other) = inr (λ e. other (ap (λ k. Some k) e))
 
 router_restarted : (topo : Topology) (tr : List Entry) (states : List RouterState) (node : List ℕ) (reaction : Reaction) (n p : ℕ) (self : Router) (new : RouterState) (place : Option ℕ)
-    → IsSound topo → outcome_of topo tr (Restart node) ≡ Ok reaction → RoutersStand topo tr states → router_named topo.routers node ≡ place
+    → IsSound topo → outcome_of topo tr (Restart node) ≡ Ok reaction → RoutersStand topo tr states → place_of_router topo.routers node ≡ place
     → slice_get topo.routers p ≡ Some self → slice_get (anew_if states place) p ≡ Some new → RouterStands topo (after_step tr (Restart node) (numbered n reaction)) self new
 router_restarted topo tr states node reaction n p self new None sound given stand named there at =
     not_started topo tr node reaction n p self new sound given there
@@ -177,10 +174,10 @@ router_restarted topo tr states node reaction n p self new (Some q) sound given 
 
 node_restarted : (topo : Topology) (tr : List Entry) (states : List RouterState) (node : List ℕ) (reaction : Reaction) (n p : ℕ) (self : Router) (new : RouterState) (host : Option ℕ)
     → IsSound topo → outcome_of topo tr (Restart node) ≡ Ok reaction → RoutersStand topo tr states → seat_place (seats_of topo) node ≡ host
-    → slice_get topo.routers p ≡ Some self → slice_get (anew_if states (router_unless host (router_named topo.routers node))) p ≡ Some new
+    → slice_get topo.routers p ≡ Some self → slice_get (anew_if states (router_unless host (place_of_router topo.routers node))) p ≡ Some new
     → RouterStands topo (after_step tr (Restart node) (numbered n reaction)) self new
 node_restarted topo tr states node reaction n p self new None sound given stand seated there at =
-    router_restarted topo tr states node reaction n p self new (router_named topo.routers node) sound given stand refl there at
+    router_restarted topo tr states node reaction n p self new (place_of_router topo.routers node) sound given stand refl there at
 node_restarted topo tr states node reaction n p self new (Some q) sound given stand seated there at =
     let host = position_passes (λ (s : Seat). bytes_eq s.name node) (seats_of topo) q seated in
     let differs : bytes_eq node self.name ≡ false =
@@ -232,7 +229,7 @@ pub routers_after : (topo : Topology) (tr : List Entry) (hosts : List HostState)
     → RoutersStand topo (after_step tr input (numbered n reaction)) (routers_with topo input new)
 routers_after topo tr hosts old new (Restart node) reaction n sound kept_given given stand moved =
     let same = moved_stand topo tr (Restart node) (RouterMoves (kept_of topo tr hosts old) None (Restart node)) old new refl moved stand in
-    let place = router_unless (seat_place (seats_of topo) node) (router_named topo.routers node) in
+    let place = router_unless (seat_place (seats_of topo) node) (place_of_router topo.routers node) in
     record {
       all = anew_if_count new place ∙ same.all;
       each = λ p self state there at. node_restarted topo tr new node reaction n p self state (seat_place (seats_of topo) node) sound given same refl there at;

@@ -15,7 +15,7 @@ use Rattle.aip_rules.specs.declared.Entry.{Entry}
 use Rattle.aip_rules.specs.declared.Flight.{Flight}
 use Rattle.aip_rules.specs.declared.Seat.{Seat}
 use Rattle.aip_rules.specs.State.{flights_of, flight_at, is_restart_of, stop_after_input}
-use Rattle.aip_rules.specs.Nodes.{seats_of, router_named}
+use Rattle.aip_rules.specs.Nodes.{seats_of, place_of_router}
 use Rattle.aip_rules.specs.Standing.{lets_act, is_host_target, reaches_host}
 use Rattle.aip_core.specs.Machine.{seat_place}
 use Rattle.aip_core.specs.Moves.{host_at, host_named_by, host_touched, router_at, router_unless}
@@ -31,7 +31,7 @@ name_at_place topo name p seat at there =
     sym (ap (λ (s : Seat). s.name) same) ∙ (bytes_eq-Decides found.item.name name).0 found.passes
 
 -- the router at the place of a name has this name
-pub router_at_name : (topo : Topology) (name : List ℕ) (p : ℕ) (self : Router) → router_named topo.routers name ≡ Some p → slice_get topo.routers p ≡ Some self → self.name ≡ name
+pub router_at_name : (topo : Topology) (name : List ℕ) (p : ℕ) (self : Router) → place_of_router topo.routers name ≡ Some p → slice_get topo.routers p ≡ Some self → self.name ≡ name
 router_at_name topo name p self at there =
     let found = position_passes (λ (r : Router). bytes_eq r.name name) topo.routers p at in
     let is : Some found.item ≡ Some self = sym found.there ∙ there in

@@ -8,7 +8,8 @@ use Rattle.std.specs.declared.cmp.Ordering.{Ordering}
 use Rattle.aip_addr.specs.declared.ids.Id.{Id}
 use Rattle.aip_addr.specs.declared.ids.Address.{Address}
 use Rattle.aip_rules.specs.declared.Seat.{Seat}
-use Rattle.aip_rules.specs.Nodes.{seats_of, is_same_address, router_named, router_with_address, domain_with_ad}
+use Rattle.aip_addr.specs.Ids.{is_same_address}
+use Rattle.aip_rules.specs.Nodes.{seats_of, place_of_router, router_with_address, domain_with_ad}
 use Rattle.aip_core.specs.declared.directory.Directory.TheInside.{Inside}
 
 -- the order of names
@@ -34,6 +35,6 @@ pub record FindsPlaces (directory : Inside) : Type 0 where
   pub seated : All (SitsBelow (length directory.topology.routers)) directory.seats.items
   pub host_names : (name : List ℕ) → get name_cmp directory.host_names name ≡ position (λ seat. bytes_eq seat.name name) directory.seats.items
   pub host_addresses : (address : Address) → get address_cmp directory.host_addresses address ≡ position (λ seat. is_same_address seat.address address) directory.seats.items
-  pub router_names : (name : List ℕ) → get name_cmp directory.router_names name ≡ router_named directory.topology.routers name
+  pub router_names : (name : List ℕ) → get name_cmp directory.router_names name ≡ place_of_router directory.topology.routers name
   pub router_addresses : (address : Address) → get address_cmp directory.router_addresses address ≡ router_with_address directory.topology.routers address
   pub domain_ads : (ad : Id) → get id_cmp directory.domain_ads ad ≡ domain_with_ad directory.topology.domains ad

@@ -17,7 +17,7 @@ use Rattle.aip_rules.specs.declared.Seat.{Seat}
 use Rattle.aip_rules.specs.declared.StepFault.{StepFault}
 use Rattle.aip_rules.specs.declared.StepFault.TheVariants as fault
 use Rattle.aip_rules.specs.State.{frame_in}
-use Rattle.aip_rules.specs.Nodes.{seats_of, router_named, address_named}
+use Rattle.aip_rules.specs.Nodes.{seats_of, place_of_router, address_named}
 use Rattle.aip_rules.specs.Reaction.{nothing, puts}
 use Rattle.aip_rules.specs.Records.{publishes}
 use Rattle.aip_rules.specs.Host.{at_host, back_up, put_by, sent_frame, shut_by}
@@ -25,7 +25,7 @@ use Rattle.aip_rules.specs.Step.{can_be_put, has_key, injected, most_bytes, most
 use Rattle.domain_routes.specs.declared.Edge.{Edge}
 use Rattle.aip_host.specs.HostState.{HostState, key_in, standing_of}
 use Rattle.aip_core.specs.Kept.{Kept}
-use Rattle.aip_core.specs.RouterMachine.{RouterState, kept_at_place}
+use Rattle.aip_core.specs.RouterMachine.{Basis, RouterState, kept_at_place}
 
 -- the place of the host of this name
 abbrev pub seat_place : List Seat → List ℕ → Option ℕ
@@ -114,11 +114,14 @@ at_host_or other kept input (Some host) = host_outcome kept.topo kept.flights ke
 
 -- ---- at a router
 
+-- what a router goes by that keeps this
+abbrev pub basis_in : Kept → RouterState → Basis
+basis_in kept state = record { topo = kept.topo; links = kept.links; records = kept.records; state = state; now = kept.ticks }
+
 -- bytes at a port of the router at a place that keeps this
 abbrev pub router_reached : Kept → ℕ → ℕ → List ℕ → Option RouterState → Reaction
 router_reached kept place port bytes None = nothing
-router_reached kept place port bytes (Some state) =
-    kept_at_place kept.topo kept.links kept.records state kept.ticks place (slice_get kept.topo.routers place) port bytes
+router_reached kept place port bytes (Some state) = kept_at_place (basis_in kept state) place (slice_get kept.topo.routers place) port bytes
 
 -- bytes at a port of a router, if there is one at a place
 abbrev pub port_reached : Kept → Option ℕ → ℕ → List ℕ → Reaction
@@ -129,7 +132,7 @@ port_reached kept (Some place) port bytes = router_reached kept place port bytes
 
 -- a flight that is delivered, towards its target
 abbrev pub target_reached : Kept → Input → Target → List ℕ → Result Reaction StepFault
-target_reached kept input (target.Port name port) bytes = Ok (port_reached kept (router_named kept.topo.routers name) port bytes)
+target_reached kept input (target.Port name port) bytes = Ok (port_reached kept (place_of_router kept.topo.routers name) port bytes)
 target_reached kept input (target.Host name) bytes = at_host_or (Ok nothing) kept input (host_of kept name)
 
 -- a flight that is delivered, if it was put
@@ -165,7 +168,7 @@ kept_outcome kept (Inject to bytes) = injected kept.topo to bytes
 kept_outcome kept (Cut link) = kept_relinked kept.links link
 kept_outcome kept (Mend link) = kept_relinked kept.links link
 kept_outcome kept (Shutoff host flight ttl) = at_host_or (Err fault.Unknown) kept (Shutoff host flight ttl) (host_of kept host)
-kept_outcome kept (Restart node) = at_host_or (router_restarted (router_named kept.topo.routers node)) kept (Restart node) (host_of kept node)
+kept_outcome kept (Restart node) = at_host_or (router_restarted (place_of_router kept.topo.routers node)) kept (Restart node) (host_of kept node)
 kept_outcome kept (Stop host call byte) = at_host_or (Err fault.Unknown) kept (Stop host call byte) (host_of kept host)
 kept_outcome kept (Halt host call byte) = at_host_or (Err fault.Unknown) kept (Halt host call byte) (host_of kept host)
 kept_outcome kept (Publish bytes) = kept_published kept.records bytes

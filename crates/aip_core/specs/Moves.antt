@@ -13,7 +13,7 @@ use Rattle.aip_rules.specs.declared.Flight.{Flight}
 use Rattle.aip_rules.specs.declared.Reaction.{Reaction}
 use Rattle.aip_rules.specs.declared.StepFault.{StepFault}
 use Rattle.aip_rules.specs.State.{ticks_of}
-use Rattle.aip_rules.specs.Nodes.{links_of, seats_of, router_named}
+use Rattle.aip_rules.specs.Nodes.{links_of, seats_of, place_of_router}
 use Rattle.aip_rules.specs.Reaction.{numbered, in_put}
 use Rattle.aip_rules.specs.Step.{has_key}
 use Rattle.aip_host.specs.HostState.{HostState, key_in}
@@ -23,7 +23,7 @@ use Rattle.aip_rules.specs.declared.Arming.{Arming}
 use Rattle.aip_core.specs.declared.reactions.NoReaction.{NoReaction}
 use Rattle.aip_core.specs.declared.reactions.NoReaction.TheVariants as no
 use Rattle.aip_core.specs.Kept.{Kept}
-use Rattle.aip_core.specs.Machine.{seat_place, kept_reaction}
+use Rattle.aip_core.specs.Machine.{basis_in, seat_place, kept_reaction}
 use Rattle.aip_core.specs.RouterMachine.{RouterState, after_place, started_anew}
 
 -- how one thing becomes another by an outcome: it moves by the reaction, or a fault leaves it as it was; of what is left where
@@ -107,14 +107,14 @@ GoesToPort flight port = (name : List ℕ) × (option_map (λ f. f.target) fligh
 -- the place of the router that a delivery reaches
 abbrev pub router_touched : Topology → List Flight → Input → Option ℕ
 router_touched topo flights (Deliver flight) =
-    option_and_then (λ name. router_named topo.routers name) (option_and_then (λ f. router_at f.target) (slice_get flights flight))
+    option_and_then (λ name. place_of_router topo.routers name) (option_and_then (λ f. router_at f.target) (slice_get flights flight))
 router_touched topo flights _ = None
 
 -- what a router keeps once bytes came to a target that is one of its ports
 abbrev pub after_target : Kept → ℕ → RouterState → Target → List ℕ → RouterState
 after_target kept place state (target.Host name) bytes = state
 after_target kept place state (target.Port name port) bytes =
-    after_place kept.topo kept.links kept.records state kept.ticks place (slice_get kept.topo.routers place) port bytes
+    after_place (basis_in kept state) place (slice_get kept.topo.routers place) port bytes
 
 -- what the router at a place keeps once a flight reached it
 abbrev pub after_flight : Kept → ℕ → RouterState → Option Flight → RouterState
@@ -144,7 +144,7 @@ router_unless (Some host) router = None
 
 -- what the routers keep once an input started one anew, if it does
 abbrev pub routers_with : Topology → Input → List RouterState → List RouterState
-routers_with topo (Restart node) states = anew_if states (router_unless (seat_place (seats_of topo) node) (router_named topo.routers node))
+routers_with topo (Restart node) states = anew_if states (router_unless (seat_place (seats_of topo) node) (place_of_router topo.routers node))
 routers_with topo _ states = states
 
 -- ---- records

@@ -13,10 +13,10 @@ IsBootedUpTo n state = state.boot ≤ n
 -- The topology is sound, the wiring is its wiring, each host stands at its seat, and there are as many routers as it has. The
 -- time is below 2^48, the inputs are at most 65,536, and neither flights nor the starts of a router are more than the inputs.
 pub record FitTogether (core : Inside) : Type 0 where
-  pub sound : IsSound core.directory
-  pub wired : IsWiringOf core.directory core.wiring
-  pub hosts : AreSeated core.directory core.hosts.items
-  pub routers : length core.routers.items ≡ length core.directory.routers
+  pub sound : IsSound core.network.directory
+  pub wired : IsWiringOf core.network.directory core.network.wiring
+  pub hosts : AreSeated core.network.directory core.hosts.items
+  pub routers : length core.routers.items ≡ length core.network.directory.routers
   pub early : core.ticks < 2 ^ 48
   pub few : core.inputs ≤ 65536
   pub put : length core.flights ≤ core.inputs

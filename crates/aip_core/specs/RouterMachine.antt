@@ -18,11 +18,15 @@ use Rattle.verify_packet.specs.Response.{response_verdict}
 use Rattle.aip_registry.specs.declared.records.Record.{Record}
 use Rattle.aip_rules.specs.declared.Neighbour.{Neighbour}
 use Rattle.aip_rules.specs.declared.Reaction.{Reaction}
+use Rattle.aip_rules.specs.declared.Verdict.{Verdict}
+use Rattle.aip_rules.specs.declared.Verdict.TheVariants.{Forwards}
 use Rattle.aip_rules.specs.Accepted.{limits_of}
-use Rattle.aip_rules.specs.Nodes.{is_same_address, neighbour_at}
+use Rattle.aip_addr.specs.Ids.{is_same_address}
+use Rattle.aip_rules.specs.Nodes.{neighbour_at}
 use Rattle.aip_rules.specs.Routes.{port_over}
 use Rattle.aip_rules.specs.Reaction.{nothing, dropped}
-use Rattle.aip_rules.specs.Router.{Arrival, Verdict, Forwards, forwarded, is_challenge, is_link, is_response, key_after, by_verdict, proved, refused, verdict_by}
+use Rattle.aip_rules.specs.Router.{Arrival, SourceKnown, forwarded, is_challenge, is_link, is_response, key_after, by_verdict, proved, refused, verdict_by}
+use Rattle.aip_core.specs.declared.network.Network.{Network}
 use Rattle.aip_core.specs.declared.router.Arrival.{Arrival as Reached}
 
 -- what a router keeps: how often it was started anew, and what it accepted since
@@ -42,74 +46,101 @@ router_at_start settings = record { boot = 0; cache = nothing_kept (limits_of se
 abbrev pub started_anew : RouterState → RouterState
 started_anew state = record { boot = state.boot + 1; cache = nothing_kept state.cache.limits }
 
+-- ---- what it goes by
+
+-- what a router goes by: the topology, the links as they are, the records that are kept, what it keeps itself, and the time
+pub record Basis : Type 0 where
+  pub topo : Topology
+  pub links : List Edge
+  pub records : List Record
+  pub state : RouterState
+  pub now : ℕ
+
+-- what a router of a network goes by that keeps this at a time
+abbrev pub basis_of : Network → RouterState → ℕ → Basis
+basis_of network state now = record {
+  topo = network.directory;
+  links = network.wiring.links;
+  records = network.registry;
+  state = state;
+  now = now;
+}
+
 -- ---- what it does
 
+-- what is known of the source of a frame
+abbrev pub kept_known : Basis → Arrival → Address → SourceKnown
+kept_known basis at source = record {
+  address = source;
+  back = port_over basis.topo basis.links at.place at.self source;
+  fresh = has_fresh basis.state.cache (pair_of source at.port) basis.now;
+  wild = has_fresh_wild basis.state.cache (wildcard_of source.ad at.port) basis.now;
+}
+
 -- the verdict on the source of a frame, by what lies at the port at which it came
-abbrev pub kept_verdict : Topology → List Edge → List Record → RouterState → ℕ → Arrival → Option Neighbour → Address → Verdict
-kept_verdict topo links records state now at neighbour source =
-    verdict_by topo records now at neighbour source (port_over topo links at.place at.self source)
-    (has_fresh state.cache (pair_of source at.port) now)
-    (has_fresh_wild state.cache (wildcard_of source.ad at.port) now)
+abbrev pub kept_verdict : Basis → Arrival → Option Neighbour → Address → Verdict
+kept_verdict basis at neighbour source = verdict_by basis.topo basis.records basis.now at neighbour (kept_known basis at source)
 
 -- a frame of a source that is checked, by what lies at the port at which it came
-abbrev pub kept_judged : Topology → List Edge → List Record → RouterState → ℕ → Arrival → Frame → ℕ → Option Neighbour → Reaction
-kept_judged topo links records state now at frame out neighbour =
-    by_verdict topo (key_after topo state.boot at.place at.self) now at frame out (kept_verdict topo links records state now at neighbour frame.from)
+abbrev pub kept_judged : Basis → Arrival → Frame → ℕ → Option Neighbour → Reaction
+kept_judged basis at frame out neighbour =
+    by_verdict basis.topo (key_after basis.topo basis.state.boot at.place at.self) basis.now at frame out (kept_verdict basis at neighbour frame.from)
 
 -- a frame that the router could put on the port `out`
-abbrev pub kept_checked : Topology → List Edge → List Record → RouterState → ℕ → Arrival → Frame → ℕ → Reaction
-kept_checked topo links records state now at frame out =
-    if not at.self.checking then forwarded topo at out cause.Open frame else
-    if is_challenge frame.kind then forwarded topo at out cause.Exempt frame else
-    kept_judged topo links records state now at frame out (neighbour_at topo at.place at.port)
+abbrev pub kept_checked : Basis → Arrival → Frame → ℕ → Reaction
+kept_checked basis at frame out =
+    if not at.self.checking then forwarded basis.topo at out cause.Open frame else
+    if is_challenge frame.kind then forwarded basis.topo at out cause.Exempt frame else
+    kept_judged basis at frame out (neighbour_at basis.topo at.place at.port)
 
 -- a frame that has a hop left and isn't for the router, towards a port or none
-abbrev pub kept_passed : Topology → List Edge → List Record → RouterState → ℕ → Arrival → Frame → Option ℕ → Reaction
-kept_passed topo links records state now at frame None = dropped at.self.name reason.NoRoute
-kept_passed topo links records state now at frame (Some out) = kept_checked topo links records state now at frame out
+abbrev pub kept_passed : Basis → Arrival → Frame → Option ℕ → Reaction
+kept_passed basis at frame None = dropped at.self.name reason.NoRoute
+kept_passed basis at frame (Some out) = kept_checked basis at frame out
 
 -- a proved source makes a wildcard of its domain at its port
-abbrev pub kept_wild : Topology → RouterState → ℕ → ℕ → Address → ℕ → Bool
-kept_wild topo state now place source port =
-    is_link (neighbour_at topo place port) && is_promoted (after_proved state.cache (pair_of source port) now) (wildcard_of source.ad port) now
+abbrev pub kept_wild : Basis → ℕ → Address → ℕ → Bool
+kept_wild basis place source port =
+    is_link (neighbour_at basis.topo place port)
+    && is_promoted (after_proved basis.state.cache (pair_of source port) basis.now) (wildcard_of source.ad port) basis.now
 
 -- what the router does with a response that it has judged
-abbrev pub kept_responded : Topology → RouterState → ℕ → ℕ → Router → Checked → Reaction
-kept_responded topo state now place self (checked.Proved source port) = proved self source port (kept_wild topo state now place source port)
-kept_responded topo state now place self checked.Body = refused self checked.Body
-kept_responded topo state now place self checked.Other = refused self checked.Other
-kept_responded topo state now place self checked.Old = refused self checked.Old
-kept_responded topo state now place self checked.Tag = refused self checked.Tag
-kept_responded topo state now place self checked.Port = refused self checked.Port
-kept_responded topo state now place self checked.Key = refused self checked.Key
-kept_responded topo state now place self checked.Signature = refused self checked.Signature
+abbrev pub kept_responded : Basis → ℕ → Router → Checked → Reaction
+kept_responded basis place self (checked.Proved source port) = proved self source port (kept_wild basis place source port)
+kept_responded basis place self checked.Body = refused self checked.Body
+kept_responded basis place self checked.Other = refused self checked.Other
+kept_responded basis place self checked.Old = refused self checked.Old
+kept_responded basis place self checked.Tag = refused self checked.Tag
+kept_responded basis place self checked.Port = refused self checked.Port
+kept_responded basis place self checked.Key = refused self checked.Key
+kept_responded basis place self checked.Signature = refused self checked.Signature
 
 -- the verdict on a response to a router
-abbrev pub kept_answer : Topology → RouterState → ℕ → Arrival → Frame → Checked
-kept_answer topo state now at frame = response_verdict (key_after topo state.boot at.place at.self) now frame
+abbrev pub kept_answer : Basis → Arrival → Frame → Checked
+kept_answer basis at frame = response_verdict (key_after basis.topo basis.state.boot at.place at.self) basis.now frame
 
 -- a frame for the router itself
-abbrev pub kept_own : Topology → RouterState → ℕ → Arrival → Frame → Reaction
-kept_own topo state now at frame =
+abbrev pub kept_own : Basis → Arrival → Frame → Reaction
+kept_own basis at frame =
     if at.self.checking && is_response frame.kind
-    then kept_responded topo state now at.place at.self (kept_answer topo state now at frame)
+    then kept_responded basis at.place at.self (kept_answer basis at frame)
     else dropped at.self.name reason.Mine
 
 -- a frame at a router
-abbrev pub kept_frame : Topology → List Edge → List Record → RouterState → ℕ → Arrival → Frame → Reaction
-kept_frame topo links records state now at frame =
-    if is_same_address at.self.address frame.to then kept_own topo state now at frame else
+abbrev pub kept_frame : Basis → Arrival → Frame → Reaction
+kept_frame basis at frame =
+    if is_same_address at.self.address frame.to then kept_own basis at frame else
     if nat_le frame.hop 1 then dropped at.self.name reason.Hops else
-    kept_passed topo links records state now at frame (port_over topo links at.place at.self frame.to)
+    kept_passed basis at frame (port_over basis.topo basis.links at.place at.self frame.to)
 
 -- a frame, or bytes that are none, at a router
-abbrev pub kept_taken : Topology → List Edge → List Record → RouterState → ℕ → Arrival → Option Frame → Reaction
-kept_taken topo links records state now at None = dropped at.self.name reason.Bad
-kept_taken topo links records state now at (Some frame) = kept_frame topo links records state now at frame
+abbrev pub kept_taken : Basis → Arrival → Option Frame → Reaction
+kept_taken basis at None = dropped at.self.name reason.Bad
+kept_taken basis at (Some frame) = kept_frame basis at frame
 
 -- what happens where bytes arrive at a port of a router
-abbrev pub kept_at_router : Topology → List Edge → List Record → RouterState → ℕ → Arrival → List ℕ → Reaction
-kept_at_router topo links records state now at bytes = kept_taken topo links records state now at (frame_of bytes)
+abbrev pub kept_at_router : Basis → Arrival → List ℕ → Reaction
+kept_at_router basis at bytes = kept_taken basis at (frame_of bytes)
 
 -- ---- what it keeps then
 
@@ -120,66 +151,63 @@ after_verdict state source port (Forwards cause.Wild) = record state { cache = a
 after_verdict state source port _ = state
 
 -- after a frame of a source that is checked
-abbrev pub after_judged : Topology → List Edge → List Record → RouterState → ℕ → Arrival → Frame → Option Neighbour → RouterState
-after_judged topo links records state now at frame neighbour =
-    after_verdict state frame.from at.port (kept_verdict topo links records state now at neighbour frame.from)
+abbrev pub after_judged : Basis → Arrival → Frame → Option Neighbour → RouterState
+after_judged basis at frame neighbour = after_verdict basis.state frame.from at.port (kept_verdict basis at neighbour frame.from)
 
 -- after a frame that the router could put on a port
-abbrev pub after_checked : Topology → List Edge → List Record → RouterState → ℕ → Arrival → Frame → RouterState
-after_checked topo links records state now at frame =
-    if not at.self.checking then state else
-    if is_challenge frame.kind then state else
-    after_judged topo links records state now at frame (neighbour_at topo at.place at.port)
+abbrev pub after_checked : Basis → Arrival → Frame → RouterState
+after_checked basis at frame =
+    if not at.self.checking then basis.state else
+    if is_challenge frame.kind then basis.state else
+    after_judged basis at frame (neighbour_at basis.topo at.place at.port)
 
 -- after a frame that has a hop left and isn't for the router
-abbrev pub after_passed : Topology → List Edge → List Record → RouterState → ℕ → Arrival → Frame → Option ℕ → RouterState
-after_passed topo links records state now at frame None = state
-after_passed topo links records state now at frame (Some out) = after_checked topo links records state now at frame
+abbrev pub after_passed : Basis → Arrival → Frame → Option ℕ → RouterState
+after_passed basis at frame None = basis.state
+after_passed basis at frame (Some out) = after_checked basis at frame
 
 -- after a proof: the source is accepted at the port, and its domain where it is made a wildcard
-abbrev pub after_proof : Topology → RouterState → ℕ → ℕ → Address → ℕ → RouterState
-after_proof topo state now place source port = record state {
-  cache = after_promote (after_proved state.cache (pair_of source port) now) (wildcard_of source.ad port) now (kept_wild topo state now place source port);
+abbrev pub after_proof : Basis → ℕ → Address → ℕ → RouterState
+after_proof basis place source port = record basis.state {
+  cache = after_promote (after_proved basis.state.cache (pair_of source port) basis.now) (wildcard_of source.ad port) basis.now (kept_wild basis place source port);
 }
 
 -- after a response that was judged
-abbrev pub after_response : Topology → RouterState → ℕ → ℕ → Checked → RouterState
-after_response topo state now place (checked.Proved source port) = after_proof topo state now place source port
-after_response topo state now place _ = state
+abbrev pub after_response : Basis → ℕ → Checked → RouterState
+after_response basis place (checked.Proved source port) = after_proof basis place source port
+after_response basis place _ = basis.state
 
 -- after a frame for the router itself
-abbrev pub after_own : Topology → RouterState → ℕ → Arrival → Frame → RouterState
-after_own topo state now at frame =
+abbrev pub after_own : Basis → Arrival → Frame → RouterState
+after_own basis at frame =
     if at.self.checking && is_response frame.kind
-    then after_response topo state now at.place (kept_answer topo state now at frame)
-    else state
+    then after_response basis at.place (kept_answer basis at frame)
+    else basis.state
 
 -- after a frame
-abbrev pub after_frame : Topology → List Edge → List Record → RouterState → ℕ → Arrival → Frame → RouterState
-after_frame topo links records state now at frame =
-    if is_same_address at.self.address frame.to then after_own topo state now at frame else
-    if nat_le frame.hop 1 then state else
-    after_passed topo links records state now at frame (port_over topo links at.place at.self frame.to)
+abbrev pub after_frame : Basis → Arrival → Frame → RouterState
+after_frame basis at frame =
+    if is_same_address at.self.address frame.to then after_own basis at frame else
+    if nat_le frame.hop 1 then basis.state else
+    after_passed basis at frame (port_over basis.topo basis.links at.place at.self frame.to)
 
 -- after a frame, or bytes that are none
-abbrev pub after_taken : Topology → List Edge → List Record → RouterState → ℕ → Arrival → Option Frame → RouterState
-after_taken topo links records state now at None = state
-after_taken topo links records state now at (Some frame) = after_frame topo links records state now at frame
+abbrev pub after_taken : Basis → Arrival → Option Frame → RouterState
+after_taken basis at None = basis.state
+after_taken basis at (Some frame) = after_frame basis at frame
 
 -- what a router keeps after bytes arrived at a port
-abbrev pub after_arrival : Topology → List Edge → List Record → RouterState → ℕ → Arrival → List ℕ → RouterState
-after_arrival topo links records state now at bytes = after_taken topo links records state now at (frame_of bytes)
+abbrev pub after_arrival : Basis → Arrival → List ℕ → RouterState
+after_arrival basis at bytes = after_taken basis at (frame_of bytes)
 
 -- ---- at a place where a router may be
 
 -- what happens where bytes arrive at a port of the router at this place, if there is one
-abbrev pub kept_at_place : Topology → List Edge → List Record → RouterState → ℕ → ℕ → Option Router → ℕ → List ℕ → Reaction
-kept_at_place topo links records state now place None port bytes = nothing
-kept_at_place topo links records state now place (Some self) port bytes =
-    kept_at_router topo links records state now (record { place = place; self = self; port = port }) bytes
+abbrev pub kept_at_place : Basis → ℕ → Option Router → ℕ → List ℕ → Reaction
+kept_at_place basis place None port bytes = nothing
+kept_at_place basis place (Some self) port bytes = kept_at_router basis (record { place = place; self = self; port = port }) bytes
 
 -- what the router at this place keeps then
-abbrev pub after_place : Topology → List Edge → List Record → RouterState → ℕ → ℕ → Option Router → ℕ → List ℕ → RouterState
-after_place topo links records state now place None port bytes = state
-after_place topo links records state now place (Some self) port bytes =
-    after_arrival topo links records state now (record { place = place; self = self; port = port }) bytes
+abbrev pub after_place : Basis → ℕ → Option Router → ℕ → List ℕ → RouterState
+after_place basis place None port bytes = basis.state
+after_place basis place (Some self) port bytes = after_arrival basis (record { place = place; self = self; port = port }) bytes

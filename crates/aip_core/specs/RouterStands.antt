@@ -6,7 +6,7 @@ use Rattle.aip_event.specs.declared.event.Event.{Event}
 use Rattle.aip_event.specs.declared.event.Event.TheVariants.{Forward, Proved, Wild}
 use Rattle.aip_topo.specs.declared.topology.Router.{Router}
 use Rattle.aip_topo.specs.declared.topology.Topology.{Topology}
-use Rattle.accept_cache.specs.StandsFor.{StandsFor as AcceptsBy}
+use Rattle.accept_cache.specs.StandsFor.{CacheStandsFor}
 use Rattle.aip_rules.specs.declared.Entry.{Entry}
 use Rattle.aip_rules.specs.Accepted.{limits_of, pair_uses, wildcard_uses}
 use Rattle.aip_rules.specs.State.{restarts_of}
@@ -17,7 +17,7 @@ use Rattle.aip_core.specs.RouterMachine.{RouterState}
 pub record RouterStands (topo : Topology) (tr : List Entry) (self : Router) (state : RouterState) : Type 0 where
   pub boot : state.boot ≡ restarts_of tr self.name
   pub limits : state.cache.limits ≡ limits_of topo.settings
-  pub accepts : AcceptsBy (pair_uses tr self.name) (wildcard_uses tr self.name) state.cache
+  pub accepts : CacheStandsFor (pair_uses tr self.name) (wildcard_uses tr self.name) state.cache
 
 -- what the routers keep, in the order of the routers, stands for a trace on a topology
 pub record RoutersStand (topo : Topology) (tr : List Entry) (states : List RouterState) : Type 0 where

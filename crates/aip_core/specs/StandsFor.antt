@@ -11,14 +11,14 @@ use Rattle.aip_rules.specs.Records.{records_kept}
 use Rattle.aip_rules.specs.Routes.{links_now}
 use Rattle.aip_rules.specs.Step.{step_of, after_step}
 use Rattle.aip_host.specs.HostState.{HostState}
-use Rattle.aip_host.specs.StandsFor.{StandsFor as HostStands}
+use Rattle.aip_host.specs.StandsFor.{HostStandsFor}
 use Rattle.aip_core.specs.Kept.{Kept}
 use Rattle.aip_core.specs.RouterStands.{RoutersStand}
 
 -- the hosts stand for a trace: there is one for each host of the topology, and each stands for it
 pub record HostsStand (topo : Topology) (tr : List Entry) (hosts : List HostState) : Type 0 where
   pub count : length hosts ≡ length (seats_of topo)
-  pub each : (place : ℕ) (seat : Seat) (state : HostState) → slice_get (seats_of topo) place ≡ Some seat → slice_get hosts place ≡ Some state → HostStands topo tr seat state
+  pub each : (place : ℕ) (seat : Seat) (state : HostState) → slice_get (seats_of topo) place ≡ Some seat → slice_get hosts place ≡ Some state → HostStandsFor topo tr seat state
 
 -- what is kept stands for a trace on a topology: it is this topology, with the links, the flights, the records, the time and
 -- the number of inputs of the trace, and its hosts and routers stand for the trace

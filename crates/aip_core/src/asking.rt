@@ -7,10 +7,9 @@ ghost use Rattle.aip_rules.specs.Router.{asked, challenge_frame, key_after};
 ghost use Rattle.aip_core.specs.RouterMachine.{arrival_of};
 ghost use Rattle.aip_core.specs.Wiring.{IsWiringOf};
 
-use crate::directory::Directory;
+use crate::network::Network;
 use crate::ports::target_at;
 use crate::router::Arrival;
-use crate::wiring::Wiring;
 use aip_addr::Bytes;
 use aip_event::{Event, Reason};
 use aip_frame::{Frame, Kind, encode, from_of, packet_hash, packet_of};
@@ -19,16 +18,16 @@ use std::alloc::{AllocError, Global};
 use verify_packet::{RouterKey, challenge};
 
 /// What a router judges responses by and makes challenges with, after so many restarts.
-pub fn key_of(directory: &Directory, wiring: &Wiring, boot: u32, at: &Arrival) -> RouterKey
-    requires { IsWiringOf directory.now wiring.now }
-    ensures { result ≡ key_after directory.now boot at.now.place at.now.own }
+pub fn key_of(network: &Network, boot: u32, at: &Arrival) -> RouterKey
+    requires { IsWiringOf network.now.directory network.now.wiring }
+    ensures { result ≡ key_after network.now.directory boot at.now.place at.now.own }
 {
     RouterKey {
         address: at.own.address,
         master: at.own.master,
         boot,
-        epoch_length: directory.settings().epoch,
-        ports: wiring.port_count(at.place),
+        epoch_length: network.directory.settings().epoch,
+        ports: network.wiring.port_count(at.place),
     }
 }
 
@@ -83,19 +82,18 @@ fn challenge_bytes(
 /// memory.
 pub fn ask(
     alloc: Global,
-    directory: &Directory,
-    wiring: &Wiring,
+    network: &Network,
     key: &RouterKey,
     at: &Arrival,
     back: Option<u16>,
     bytes: &[u8],
 ) -> Result<Reaction, AllocError>
-    requires wired { IsWiringOf directory.now wiring.now }
-    requires there { at.now.place < length directory.now.routers }
+    requires wired { IsWiringOf network.now.directory network.now.wiring }
+    requires there { at.now.place < length network.now.directory.routers }
     requires epochs { 0 < key.now.epoch_length }
     requires frame { IsSome (frame_of bytes.now) }
     ensures { IfOk result (λ reaction. IfSome (frame_of bytes.now) (λ frame.
-        reaction ≡ asked directory.now key.now at.now.time (arrival_of at.now) frame back)) }
+        reaction ≡ asked network.now.directory key.now at.now.time (arrival_of at.now) frame back)) }
 {
     match back {
         Some(back) => {
@@ -104,7 +102,7 @@ pub fn ask(
                 in_port: at.port,
                 out_port: back.into(),
             };
-            let target = target_at(directory, wiring, at.place, back);
+            let target = target_at(network, at.place, back);
             let asking = challenge_bytes(alloc, key, at, bytes)?;
             Reaction::happens_and_puts(alloc, event, target, asking)
         }

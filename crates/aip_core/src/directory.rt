@@ -5,7 +5,8 @@ ghost use Rattle.std.specs.Str.{bytes_eq};
 ghost use Rattle.std.specs.BTreeMap.{get};
 ghost use Rattle.aip_addr.specs.declared.ids.Id.{Id as Ad};
 ghost use Rattle.aip_addr.specs.declared.ids.Address.{Address as Place};
-ghost use Rattle.aip_rules.specs.Nodes.{seats_of, seat_named, seat_with_address, router_named, router_with_address, domain_with_ad, address_named, is_same_address, name_at};
+ghost use Rattle.aip_addr.specs.Ids.{is_same_address};
+ghost use Rattle.aip_rules.specs.Nodes.{seats_of, seat_named, seat_with_address, place_of_router, router_with_address, domain_with_ad, address_named, name_at};
 ghost use Rattle.aip_rules.specs.Routes.{goal_of, goal_inside};
 ghost use Rattle.aip_core.specs.Machine.{seat_place};
 ghost use Rattle.aip_core.specs.Directory.{name_cmp, id_cmp, address_cmp, SitsBelow};
@@ -95,7 +96,7 @@ fn host_addresses(alloc: Global, seats: &[Seat]) -> Result<BTreeMap<Address, u16
 
 fn router_names(alloc: Global, routers: &[Router]) -> Result<BTreeMap<Name, u16>, AllocError>
     requires { length routers.now ≤ 65536 }
-    ensures { IfOk result (λ places. (name : List ℕ) → get name_cmp places name ≡ router_named routers.now name) }
+    ensures { IfOk result (λ places. (name : List ℕ) → get name_cmp places name ≡ place_of_router routers.now name) }
 {
     let names = names_of_routers(alloc, routers)?;
     places_of(alloc, &names)
@@ -212,8 +213,8 @@ impl Directory {
     }
 
     /// The place of the router of this name.
-    pub fn router_named(&self, name: &Name) -> Option<u16>
-        ensures { result ≡ router_named self.now.routers name.now }
+    pub fn place_of_router(&self, name: &Name) -> Option<u16>
+        ensures { result ≡ place_of_router self.now.routers name.now }
     {
         self.router_names.get(name).copied()
     }
@@ -222,7 +223,7 @@ impl Directory {
     fn router_found(&self, name: &Name) -> Option<Router>
         ensures { result ≡ find (λ router. bytes_eq router.name name.now) self.now.routers }
     {
-        router_at(self.routers(), self.router_named(name))
+        router_at(self.routers(), self.place_of_router(name))
     }
 
     /// The address of the host or router of this name.

@@ -24,6 +24,7 @@ use crate::directory::Directory;
 use crate::ends::StepEnd;
 use crate::flights::Flights;
 use crate::host::{act_at, can_be_put};
+use crate::network;
 use crate::places::{Places, places_of};
 use crate::publishing::publish;
 use crate::reactions::NoReaction;
@@ -44,13 +45,11 @@ use std::marker::Model;
 /// trace.
 #[derive(Drop)]
 pub struct Core {
-    directory: Directory,
-    wiring: Wiring,
+    network: network::Network,
     flights: Flights,
     // The hosts and what the routers keep, by their places.
     hosts: Vec<Host>,
     routers: Vec<Checks>,
-    registry: Registry,
     ticks: u64,
     inputs: u32,
 }
@@ -62,7 +61,7 @@ impl Model for Core {
 
     ghost use Rattle.aip_core.specs.Rooms.{FitTogether};
 
-    ghost view = { λ c. record { topo = c.directory; links = c.wiring.links; flights = c.flights; hosts = c.hosts.items; routers = c.routers.items; records = c.registry; ticks = c.ticks; inputs = c.inputs } };
+    ghost view = { λ c. record { topo = c.network.directory; links = c.network.wiring.links; flights = c.flights; hosts = c.hosts.items; routers = c.routers.items; records = c.network.registry; ticks = c.ticks; inputs = c.inputs } };
 
     ghost invariant = { FitTogether };
 }
@@ -88,12 +87,14 @@ impl Core {
         let checks = checks_of(alloc, &settings, routers.len())?;
         let domains = domains_of(alloc, routers)?;
         Ok(Core {
-            directory: Directory::new(alloc, topology, seats)?,
-            wiring: Wiring::new(alloc, domains, links, rows),
+            network: network::Network {
+                directory: Directory::new(alloc, topology, seats)?,
+                wiring: Wiring::new(alloc, domains, links, rows),
+                registry: Registry::new(alloc),
+            },
             flights: Flights::new(alloc),
             hosts,
             routers: checks,
-            registry: Registry::new(alloc),
             ticks: 0,
             inputs: 0,
         })
@@ -138,7 +139,7 @@ impl Core {
     fn relink(&self, alloc: Global, link: u64) -> Result<Reaction, StepFault>
         ensures { result ≡ kept_relinked self.now.links link }
     {
-        if link >= self.wiring.link_count() as u64 {
+        if link >= self.network.wiring.link_count() as u64 {
             return Err(StepFault::Range);
         }
         Ok(Reaction::nothing(alloc))
@@ -149,9 +150,9 @@ impl Core {
         ensures { (bytes : List ℕ) → injected self.now.topo to.now bytes ≡ unless_hindered result to.now bytes }
     {
         match to {
-            Target::Port { router, port } => match self.directory.router_named(router) {
+            Target::Port { router, port } => match self.network.directory.place_of_router(router) {
                 Some(place) => {
-                    if *port >= self.wiring.port_count(place).into() {
+                    if *port >= self.network.wiring.port_count(place).into() {
                         Some(StepFault::Range)
                     } else {
                         None
@@ -159,7 +160,7 @@ impl Core {
                 }
                 None => Some(StepFault::Unknown),
             },
-            Target::Host { name } => match self.directory.seat_named(name) {
+            Target::Host { name } => match self.network.directory.seat_named(name) {
                 Some(_) => None,
                 None => Some(StepFault::Unknown),
             },
@@ -189,7 +190,7 @@ impl Core {
     {
         act_at(
             alloc,
-            &self.directory,
+            &self.network.directory,
             &self.flights,
             self.ticks,
             &mut self.hosts,
@@ -210,7 +211,7 @@ impl Core {
         ensures { Does (at_host_or (Err fault.Unknown) self.old input.now (host_of self.old host.now))
             (λ reaction old new. Moved old input.now reaction new) self.old result self.new }
     {
-        match self.directory.place_of_host(host) {
+        match self.network.directory.place_of_host(host) {
             Some(place) => self.act(alloc, place, input),
             None => Err(NoReaction::Fault(StepFault::Unknown)),
         }
@@ -221,9 +222,9 @@ impl Core {
         requires { input.now ≡ Restart node.now }
         ensures { Does (kept_outcome self.old input.now) (λ reaction old new. Moved old input.now reaction new) self.old result self.new }
     {
-        match self.directory.place_of_host(node) {
+        match self.network.directory.place_of_host(node) {
             Some(place) => self.act(alloc, place, input),
-            None => match self.directory.router_named(node) {
+            None => match self.network.directory.place_of_router(node) {
                 Some(_) => Ok(Reaction::nothing(alloc)),
                 None => Err(NoReaction::Fault(StepFault::Unknown)),
             },
@@ -245,9 +246,7 @@ impl Core {
         match self.flights.find(flight as usize) {
             Some(found) => Ok(arrive_at(
                 alloc,
-                &self.directory,
-                &mut self.wiring,
-                &self.registry,
+                &mut self.network,
                 &mut self.routers,
                 place,
                 port,
@@ -271,11 +270,11 @@ impl Core {
         ensures { Does (kept_outcome self.old input.now) (λ reaction old new. Moved old input.now reaction new) self.old result self.new }
     {
         match to {
-            Target::Port { router, port } => match self.directory.router_named(router) {
+            Target::Port { router, port } => match self.network.directory.place_of_router(router) {
                 Some(place) => self.cross(alloc, place, *port, flight),
                 None => Ok(Reaction::nothing(alloc)),
             },
-            Target::Host { name } => match self.directory.place_of_host(name) {
+            Target::Host { name } => match self.network.directory.place_of_host(name) {
                 Some(place) => self.act(alloc, place, input),
                 None => Ok(Reaction::nothing(alloc)),
             },
@@ -297,7 +296,7 @@ impl Core {
     fn publish(&mut self, alloc: Global, bytes: &[u8]) -> Result<Reaction, NoReaction>
         ensures { Does (kept_outcome self.old (Publish bytes.now)) (λ reaction old new. Moved old (Publish bytes.now) reaction new) self.old result self.new }
     {
-        publish(alloc, &mut self.registry, bytes)
+        publish(alloc, &mut self.network.registry, bytes)
     }
 
     // What comes of an input, where one more may be taken.
@@ -333,25 +332,30 @@ impl Core {
         ensures events { IfOk result (λ taken. taken.1 ≡ numbered (length self.flights) reaction) }
     {
         let Core {
-            directory,
-            wiring,
+            network,
             mut flights,
             hosts,
             routers,
-            registry,
             ticks,
             inputs,
         } = self;
+        let network::Network {
+            directory,
+            wiring,
+            registry,
+        } = network;
         let Reaction { mut events, put } = reaction;
         put_behind(alloc, &mut flights, &mut events, put)?;
         let routers = started(&directory, routers, input);
         let core = Core {
-            directory,
-            wiring: linked(alloc, wiring, input),
+            network: network::Network {
+                directory,
+                wiring: linked(alloc, wiring, input),
+                registry,
+            },
             flights,
             hosts,
             routers,
-            registry,
             ticks: ticks + ticks_of(input),
             inputs: inputs + 1,
         };

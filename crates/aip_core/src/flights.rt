@@ -25,7 +25,7 @@ impl Model for Flights {
     ghost view = { λ f. f.entries.items };
 }
 
-fn copy_of(alloc: Global, flight: &Flight) -> Result<Flight, AllocError>
+fn copied(alloc: Global, flight: &Flight) -> Result<Flight, AllocError>
     ensures { IfOk result (λ copy. copy ≡ flight.now) }
 {
     let bytes = Bytes::from_slice(alloc, flight.bytes.as_slice())?;
@@ -88,7 +88,7 @@ impl Flights {
         ensures event { IfOk result (λ event. event ≡ Put (length self.old) flight.target flight.bytes) }
     {
         let number = self.entries.len() as u64;
-        self.entries.push(copy_of(alloc, &flight)?)?;
+        self.entries.push(copied(alloc, &flight)?)?;
         Ok(event_of(number, flight))
     }
 }

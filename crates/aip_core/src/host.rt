@@ -16,11 +16,8 @@ use aip_addr::Address;
 use aip_event::Input;
 use aip_frame::{MOST_BODY, is_frame};
 use aip_host::Host;
-use aip_rules::{Flight, Reaction, StepFault};
+use aip_rules::{Flight, MOST_BYTES, Reaction, StepFault};
 use std::alloc::Global;
-
-/// The most bytes that are put at once.
-pub const MOST_BYTES: usize = 9216;
 
 /// Whether so many bytes can be put.
 pub fn can_be_put(count: usize) -> bool

@@ -23,6 +23,7 @@ mod engine;
 mod flights;
 mod host;
 mod index;
+mod network;
 mod passing;
 mod places;
 mod ports;

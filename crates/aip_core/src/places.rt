@@ -132,12 +132,12 @@ fn place_link(
     let there = Neighbour::Link {
         router: link.b,
         port: b_port,
-        trusted: link.a_trusts,
+        marked: link.a_trusts,
     };
     let back = Neighbour::Link {
         router: link.a,
         port: a_port,
-        trusted: link.b_trusts,
+        marked: link.b_trusts,
     };
     add_neighbour(rows, link.a, there)?;
     add_neighbour(rows, link.b, back)

@@ -6,11 +6,12 @@ ghost use Rattle.aip_rules.specs.Routes.{goal_of, port_of_seat, port_to_goal, po
 ghost use Rattle.aip_core.specs.Wiring.{IsWiringOf, LeadsBelow};
 
 use crate::directory::Directory;
+use crate::network::Network;
+use crate::router::Arrival;
 use crate::wiring::Wiring;
 use aip_addr::Address;
 use aip_event::Target;
 use aip_rules::{Neighbour, Seat};
-use aip_topo::Router;
 use std::alloc::{AllocError, Global};
 
 // The port of a host that stands at this router.
@@ -34,39 +35,36 @@ fn port_to_goal(
     alloc: Global,
     directory: &Directory,
     wiring: &mut Wiring,
-    router: u16,
-    own: &Router,
+    at: &Arrival,
     address: &Address,
 ) -> Result<Option<u16>, AllocError>
     requires { IsWiringOf directory.now wiring.old }
     ensures same { wiring.new ≡ wiring.old }
-    ensures port { IfOk result (λ port. port ≡ port_to_goal directory.now wiring.old.links router (goal_of directory.now own.now.domain address.now)) }
+    ensures port { IfOk result (λ port. port ≡ port_to_goal directory.now wiring.old.links at.now.place (goal_of directory.now at.now.own.domain address.now)) }
 {
-    match directory.goal_of(own.domain, address) {
-        Some(goal) => wiring.port_towards(alloc, router, goal),
+    match directory.goal_of(at.own.domain, address) {
+        Some(goal) => wiring.port_towards(alloc, at.place, goal),
         None => Ok(None),
     }
 }
 
-/// The port of a router towards an address, over the links as they are. The only error is want of memory.
+/// The port of the router that a flight reached towards an address, over the links as they are. The only error is want of memory.
 pub fn port_over(
     alloc: Global,
-    directory: &Directory,
-    wiring: &mut Wiring,
-    router: u16,
-    own: &Router,
+    network: &mut Network,
+    at: &Arrival,
     address: &Address,
 ) -> Result<Option<u16>, AllocError>
-    requires { IsWiringOf directory.now wiring.old }
-    ensures same { wiring.new ≡ wiring.old }
-    ensures port { IfOk result (λ port. port ≡ port_over directory.now wiring.old.links router own.now address.now) }
+    requires { IsWiringOf network.old.directory network.old.wiring }
+    ensures same { network.new ≡ network.old }
+    ensures port { IfOk result (λ port. port ≡ port_over network.old.directory network.old.wiring.links at.now.place at.now.own address.now) }
 {
-    if own.address == *address {
+    if at.own.address == *address {
         return Ok(None);
     }
-    match port_of_seat(router, directory.seat_with_address(address)) {
+    match port_of_seat(at.place, network.directory.seat_with_address(address)) {
         Some(port) => Ok(Some(port)),
-        None => port_to_goal(alloc, directory, wiring, router, own, address),
+        None => port_to_goal(alloc, &network.directory, &mut network.wiring, at, address),
     }
 }
 
@@ -87,7 +85,7 @@ fn towards(directory: &Directory, neighbour: Option<Neighbour>, router: u16, por
         Neighbour::Link {
             router: other,
             port: far,
-            trusted: _,
+            marked: _,
         } => Target::Port {
             router: directory.name_at(other),
             port: far.into(),
@@ -96,14 +94,14 @@ fn towards(directory: &Directory, neighbour: Option<Neighbour>, router: u16, por
 }
 
 /// What a frame goes towards that the router puts on a port.
-pub fn target_at(directory: &Directory, wiring: &Wiring, router: u16, port: u16) -> Target
-    requires wired { IsWiringOf directory.now wiring.now }
-    requires there { router < length directory.now.routers }
-    ensures { result ≡ target_at directory.now router port }
+pub fn target_at(network: &Network, router: u16, port: u16) -> Target
+    requires wired { IsWiringOf network.now.directory network.now.wiring }
+    requires there { router < length network.now.directory.routers }
+    ensures { result ≡ target_at network.now.directory router port }
 {
     towards(
-        directory,
-        wiring.neighbour(router, port.into()),
+        &network.directory,
+        network.wiring.neighbour(router, port.into()),
         router,
         port,
     )

@@ -4,20 +4,19 @@ ghost use Rattle.std.specs.Prelude.{◌≡◌, List};
 ghost use Rattle.aip_registry.specs.declared.records.Record.{Record as Fields};
 ghost use Rattle.aip_registry.specs.Record.{fields_in};
 ghost use Rattle.aip_registry.specs.Kept.{after, publication};
-ghost use Rattle.aip_rules.specs.Records.{kept_event, publication_event};
+ghost use Rattle.aip_rules.specs.Records.{kept_record_event, publication_event};
 ghost use Rattle.aip_core.specs.Machine.{kept_published};
 ghost use Rattle.aip_core.specs.Moves.{Does};
 
-use crate::host::MOST_BYTES;
 use crate::reactions::NoReaction;
 use aip_event::Event;
 use aip_registry::{Published, Record, RecordKind, Registry, read_record};
-use aip_rules::{Reaction, StepFault};
+use aip_rules::{MOST_BYTES, Reaction, StepFault};
 use std::alloc::Global;
 
 // The event of a record that is kept from now on.
-fn kept_event(fields: &Record) -> Event
-    ensures { result ≡ kept_event fields.now.kind fields.now }
+fn kept_record_event(fields: &Record) -> Event
+    ensures { result ≡ kept_record_event fields.now.kind fields.now }
 {
     match fields.kind {
         RecordKind::Peer => Event::PublishedPeer {
@@ -40,7 +39,7 @@ fn publication_event(fields: &Record, said: Published) -> Event
     ensures { result ≡ publication_event fields.now said }
 {
     match said {
-        Published::Ok => kept_event(fields),
+        Published::Ok => kept_record_event(fields),
         refusal => Event::Unpublished {
             number: refusal.number(),
         },

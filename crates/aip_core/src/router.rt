@@ -3,18 +3,16 @@
 ghost use Rattle.std.specs.Prelude.{◌≡◌, ◌<◌, length, slice_get, IsSome, IfSome, IfOk, OnOk};
 ghost use Rattle.aip_frame.specs.Frame.{frame_of};
 ghost use Rattle.aip_rules.specs.Router.{is_link, proved};
-ghost use Rattle.aip_core.specs.RouterMachine.{arrival_of, kept_responded, kept_own, kept_taken, kept_at_place, after_response, after_own, after_taken, after_place};
+ghost use Rattle.aip_core.specs.RouterMachine.{arrival_of, basis_of, kept_responded, kept_own, kept_taken, kept_at_place, after_response, after_own, after_taken, after_place};
 ghost use Rattle.aip_core.specs.Wiring.{IsWiringOf};
 
 use crate::asking::key_of;
 use crate::checks::Checks;
-use crate::directory::Directory;
+use crate::network::Network;
 use crate::passing::pass;
-use crate::wiring::Wiring;
 use aip_addr::Address;
 use aip_event::{Event, Events, Reason};
 use aip_frame::{Kind, hop_of, is_frame, kind_of, to_of};
-use aip_registry::Registry;
 use aip_rules::{Neighbour, Reaction};
 use aip_topo::Router;
 use std::alloc::{AllocError, Global};
@@ -72,21 +70,20 @@ fn proved(
 // What the router does with a response that it has judged.
 fn respond(
     alloc: Global,
-    directory: &Directory,
-    wiring: &Wiring,
+    network: &Network,
     checks: &mut Checks,
     at: &Arrival,
     verdict: Checked,
 ) -> Result<Reaction, AllocError>
-    requires wired { IsWiringOf directory.now wiring.now }
+    requires wired { IsWiringOf network.now.directory network.now.wiring }
     ensures reaction { IfOk result (λ reaction.
-        reaction ≡ kept_responded directory.now checks.old at.now.time at.now.place at.now.own verdict) }
-    ensures after { OnOk result (checks.new ≡ after_response directory.now checks.old at.now.time at.now.place verdict) }
+        reaction ≡ kept_responded (basis_of network.now checks.old at.now.time) at.now.place at.now.own verdict) }
+    ensures after { OnOk result (checks.new ≡ after_response (basis_of network.now checks.old at.now.time) at.now.place verdict) }
     ensures boot { checks.new.boot ≡ checks.old.boot }
 {
     match verdict {
         Checked::Proved { source, port } => {
-            let link = is_link(wiring.neighbour(at.place, port.into()));
+            let link = is_link(network.wiring.neighbour(at.place, port.into()));
             let wild = checks.prove(&source, port, link, at.time)?;
             proved(alloc, &at.own, source, port, wild)
         }
@@ -103,19 +100,18 @@ fn respond(
 // A frame for the router itself.
 fn take_own(
     alloc: Global,
-    directory: &Directory,
-    wiring: &Wiring,
+    network: &Network,
     checks: &mut Checks,
     at: &Arrival,
     bytes: &[u8],
 ) -> Result<Reaction, AllocError>
-    requires wired { IsWiringOf directory.now wiring.now }
-    requires epochs { 0 < directory.now.settings.epoch }
+    requires wired { IsWiringOf network.now.directory network.now.wiring }
+    requires epochs { 0 < network.now.directory.settings.epoch }
     requires frame { IsSome (frame_of bytes.now) }
     ensures reaction { IfOk result (λ reaction. IfSome (frame_of bytes.now) (λ frame.
-        reaction ≡ kept_own directory.now checks.old at.now.time (arrival_of at.now) frame)) }
+        reaction ≡ kept_own (basis_of network.now checks.old at.now.time) (arrival_of at.now) frame)) }
     ensures after { OnOk result (IfSome (frame_of bytes.now) (λ frame.
-        checks.new ≡ after_own directory.now checks.old at.now.time (arrival_of at.now) frame)) }
+        checks.new ≡ after_own (basis_of network.now checks.old at.now.time) (arrival_of at.now) frame)) }
     ensures boot { checks.new.boot ≡ checks.old.boot }
 {
     if !at.own.checking {
@@ -123,9 +119,9 @@ fn take_own(
     }
     match kind_of(bytes) {
         Kind::Response => {
-            let key = key_of(directory, wiring, checks.boot(), at);
+            let key = key_of(network, checks.boot(), at);
             let verdict = check(&key, at.time, bytes);
-            respond(alloc, directory, wiring, checks, at, verdict)
+            respond(alloc, network, checks, at, verdict)
         }
         Kind::Data | Kind::Challenge | Kind::ShutOff => {
             Reaction::dropped(alloc, at.own.name, Reason::Mine)
@@ -136,58 +132,54 @@ fn take_own(
 // What happens where bytes arrive at a router.
 fn take_in(
     alloc: Global,
-    directory: &Directory,
-    wiring: &mut Wiring,
-    registry: &Registry,
+    network: &mut Network,
     checks: &mut Checks,
     at: &Arrival,
     bytes: &[u8],
 ) -> Result<Reaction, AllocError>
-    requires wired { IsWiringOf directory.now wiring.old }
-    requires there { at.now.place < length directory.now.routers }
-    requires epochs { 0 < directory.now.settings.epoch }
-    ensures same { wiring.new ≡ wiring.old }
+    requires wired { IsWiringOf network.old.directory network.old.wiring }
+    requires there { at.now.place < length network.old.directory.routers }
+    requires epochs { 0 < network.old.directory.settings.epoch }
+    ensures same { network.new ≡ network.old }
     ensures reaction { IfOk result (λ reaction.
-        reaction ≡ kept_taken directory.now wiring.old.links registry.now checks.old at.now.time (arrival_of at.now) (frame_of bytes.now)) }
+        reaction ≡ kept_taken (basis_of network.old checks.old at.now.time) (arrival_of at.now) (frame_of bytes.now)) }
     ensures after { OnOk result (
-        checks.new ≡ after_taken directory.now wiring.old.links registry.now checks.old at.now.time (arrival_of at.now) (frame_of bytes.now)) }
+        checks.new ≡ after_taken (basis_of network.old checks.old at.now.time) (arrival_of at.now) (frame_of bytes.now)) }
     ensures boot { checks.new.boot ≡ checks.old.boot }
 {
     if !is_frame(bytes) {
         return Reaction::dropped(alloc, at.own.name, Reason::Bad);
     }
     if at.own.address == to_of(bytes) {
-        return take_own(alloc, directory, wiring, checks, at, bytes);
+        return take_own(alloc, network, checks, at, bytes);
     }
     if hop_of(bytes) <= 1 {
         return Reaction::dropped(alloc, at.own.name, Reason::Hops);
     }
-    pass(alloc, directory, wiring, registry, checks, at, bytes)
+    pass(alloc, network, checks, at, bytes)
 }
 
 /// What happens where bytes arrive at a port of the router at a place at a time, if there is one, and what it keeps then,
 /// which is `checks` before. The only error is want of memory; what the router keeps is of no use after it.
 pub fn arrive(
     alloc: Global,
-    directory: &Directory,
-    wiring: &mut Wiring,
-    registry: &Registry,
+    network: &mut Network,
     checks: &mut Checks,
     place: u16,
     port: u64,
     now: u64,
     bytes: &[u8],
 ) -> Result<Reaction, AllocError>
-    requires wired { IsWiringOf directory.now wiring.old }
-    requires epochs { 0 < directory.now.settings.epoch }
-    ensures same { wiring.new ≡ wiring.old }
+    requires wired { IsWiringOf network.old.directory network.old.wiring }
+    requires epochs { 0 < network.old.directory.settings.epoch }
+    ensures same { network.new ≡ network.old }
     ensures reaction { IfOk result (λ reaction.
-        reaction ≡ kept_at_place directory.now wiring.old.links registry.now checks.old now place (slice_get directory.now.routers place) port bytes.now) }
+        reaction ≡ kept_at_place (basis_of network.old checks.old now) place (slice_get network.old.directory.routers place) port bytes.now) }
     ensures after { OnOk result (
-        checks.new ≡ after_place directory.now wiring.old.links registry.now checks.old now place (slice_get directory.now.routers place) port bytes.now) }
+        checks.new ≡ after_place (basis_of network.old checks.old now) place (slice_get network.old.directory.routers place) port bytes.now) }
     ensures boot { checks.new.boot ≡ checks.old.boot }
 {
-    match directory.routers().get(place as usize) {
+    match network.directory.routers().get(place as usize) {
         Some(own) => {
             let at = Arrival {
                 place,
@@ -195,7 +187,7 @@ pub fn arrive(
                 port,
                 time: now,
             };
-            take_in(alloc, directory, wiring, registry, checks, &at, bytes)
+            take_in(alloc, network, checks, &at, bytes)
         }
         None => Ok(Reaction::nothing(alloc)),
     }

@@ -5,15 +5,14 @@ ghost use Rattle.accept_cache.specs.Kept.{HasRoom};
 ghost use Rattle.aip_rules.specs.Accepted.{limits_of};
 ghost use Rattle.aip_core.specs.Moves.{MovesAt, anew_at, anew_if, routers_with};
 ghost use Rattle.aip_core.specs.Rooms.{IsBootedUpTo};
-ghost use Rattle.aip_core.specs.RouterMachine.{RouterState, kept_at_place, after_place, router_at_start};
+ghost use Rattle.aip_core.specs.RouterMachine.{RouterState, basis_of, kept_at_place, after_place, router_at_start};
 ghost use Rattle.aip_core.specs.Wiring.{IsWiringOf};
 
 use crate::checks::Checks;
 use crate::directory::Directory;
+use crate::network::Network;
 use crate::router;
-use crate::wiring::Wiring;
 use aip_event::Input;
-use aip_registry::Registry;
 use aip_rules::Reaction;
 use aip_topo::Settings;
 use std::alloc::{AllocError, Global};
@@ -38,32 +37,28 @@ pub fn checks_of(
 /// want of memory; what the router keeps is of no use after it.
 pub fn arrive_at(
     alloc: Global,
-    directory: &Directory,
-    wiring: &mut Wiring,
-    registry: &Registry,
+    network: &mut Network,
     routers: &mut Vec<Checks>,
     place: u16,
     port: u64,
     now: u64,
     bytes: &[u8],
 ) -> Result<Reaction, AllocError>
-    requires wired { IsWiringOf directory.now wiring.old }
-    requires epochs { 0 < directory.now.settings.epoch }
+    requires wired { IsWiringOf network.old.directory network.old.wiring }
+    requires epochs { 0 < network.old.directory.settings.epoch }
     requires there { place < length routers.old.items }
-    ensures same { wiring.new ≡ wiring.old }
+    ensures same { network.new ≡ network.old }
     ensures count { length routers.new.items ≡ length routers.old.items }
     ensures boots { (n : ℕ) → All (IsBootedUpTo n) routers.old.items → All (IsBootedUpTo n) routers.new.items }
     ensures reaction { IfOk result (λ reaction. (state : RouterState) → slice_get routers.old.items place ≡ Some state
-        → reaction ≡ kept_at_place directory.now wiring.old.links registry.now state now place (slice_get directory.now.routers place) port bytes.now) }
+        → reaction ≡ kept_at_place (basis_of network.old state now) place (slice_get network.old.directory.routers place) port bytes.now) }
     ensures after { OnOk result (MovesAt RouterState (Some place)
-        (λ old new. new ≡ after_place directory.now wiring.old.links registry.now old now place (slice_get directory.now.routers place) port bytes.now)
+        (λ old new. new ≡ after_place (basis_of network.old old now) place (slice_get network.old.directory.routers place) port bytes.now)
         routers.old.items routers.new.items) }
 {
     router::arrive(
         alloc,
-        directory,
-        wiring,
-        registry,
+        network,
         &mut routers[place as usize],
         place,
         port,
@@ -89,7 +84,7 @@ fn started_by(directory: &Directory, input: &Input) -> Option<u16>
     match input {
         Input::Restart { node } => match directory.place_of_host(node) {
             Some(_) => None,
-            None => directory.router_named(node),
+            None => directory.place_of_router(node),
         },
         _ => None,
     }

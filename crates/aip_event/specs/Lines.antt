@@ -1,11 +1,11 @@
 -- The line of an input and of an event: words with one space between them.
-use Rattle.std.specs.Prelude.{ℕ, ◌≡◌, ◌<◌, ◌^◌, List, ◌∷◌, ◌++◌, length, codes, decimal, ⊤}
+use Rattle.std.specs.Prelude.{ℕ, ◌≡◌, ◌<◌, ◌^◌, List, [], ◌∷◌, ◌++◌, flat_map, length, codes, decimal, ⊤}
 use Rattle.hex.specs.Hex.{IsBytes, encode_lower}
 use Rattle.aip_addr.specs.Naming.{IsName}
 use Rattle.aip_addr.specs.declared.ids.KeyId.{KeyId}
 use Rattle.aip_addr.specs.declared.ids.Address.{Address}
 use Rattle.aip_text.specs.Fields.{IsId, id_word}
-use Rattle.aip_text.specs.Words.{bytes_word}
+use Rattle.aip_text.specs.Words.{bytes_word, IsNumber}
 use Rattle.aip_event.specs.declared.input.Target.{Target}
 use Rattle.aip_event.specs.declared.input.Target.TheVariants as target
 use Rattle.aip_event.specs.declared.input.Input.{Input}
@@ -92,9 +92,17 @@ event_line (event.PublishedPeer ad other number until) = codes "published peer" 
 event_line (event.PublishedBind ad other number until) = codes "published bind" ++ 32 ∷ id_word ad ++ 32 ∷ id_word other ++ 32 ∷ decimal number ++ 32 ∷ decimal until
 event_line (event.Unpublished number) = codes "unpublished" ++ 32 ∷ decimal number
 
--- a number of at most 15 digits
-abbrev pub IsNumber : ℕ → Type 0
-IsNumber n = n < 10 ^ 15
+-- what is written for an input that is taken: its line behind "> "
+abbrev pub input_text : Input → List ℕ
+input_text input = codes "> " ++ (input_line input ++ 10 ∷ [])
+
+-- what is written for an event: its line behind "< "
+abbrev pub event_text : Event → List ℕ
+event_text event = codes "< " ++ (event_line event ++ 10 ∷ [])
+
+-- what is written for events, the first first
+abbrev pub events_text : List Event → List ℕ
+events_text events = flat_map event_text events
 
 -- a number that fits in 64 bits
 abbrev pub IsLongNumber : ℕ → Type 0

@@ -1,14 +1,14 @@
 ghost use Rattle.std.specs.Prelude.{◌≡◌, ◌++◌, ◌∷◌, IfOk, OnErr, OnOk, decimal};
 ghost use Rattle.aip_text.specs.Fields.{id_word};
 ghost use Rattle.aip_event.specs.declared.event.Event.TheVariants as event;
-ghost use Rattle.aip_event.specs.Lines.{event_line, key_id_word};
+ghost use Rattle.aip_event.specs.Lines.{event_line, event_text, events_text, key_id_word};
 
 use crate::event::{Cause, Event, Reason};
 use crate::fields::{push_address, push_content, push_count, push_id, push_key_id, push_target};
 use crate::input::Target;
 use crate::shapes::{name_line, name_number_line, name_numbers_line, number_line};
 use aip_addr::{Address, Bytes, Id, KeyId, Name};
-use aip_text::push_word;
+use aip_text::{push_text, push_word};
 use std::alloc::{AllocError, Global};
 
 /// Appends the event's line, without a line feed. After want of memory `out` is as before.
@@ -18,6 +18,34 @@ pub fn write_event(alloc: Global, event: &Event, out: &mut Vec<u8>) -> Result<()
 {
     let line = line_of(alloc, event)?;
     out.extend_from_slice(line.as_slice())
+}
+
+/// Appends what is written for events, the first first: the line of each behind `< `, with a line feed. After want of
+/// memory `out` is as before.
+pub fn write_events(alloc: Global, events: &[Event], out: &mut Vec<u8>) -> Result<(), AllocError>
+    ensures ok { OnOk result (out.new.items ≡ out.old.items ++ events_text events.now) }
+    ensures err { OnErr result (out.new.items ≡ out.old.items) }
+{
+    let text = text_of_events(alloc, events)?;
+    out.extend_from_slice(text.as_slice())
+}
+
+fn text_of_events(alloc: Global, events: &[Event]) -> Result<Vec<u8>, AllocError>
+    ensures { IfOk result (λ text. text.items ≡ events_text events.now) }
+{
+    let mut text = Vec::new(alloc);
+    for event in events {
+        push_event(alloc, event, &mut text)?;
+    }
+    Ok(text)
+}
+
+fn push_event(alloc: Global, event: &Event, text: &mut Vec<u8>) -> Result<(), AllocError>
+    ensures { OnOk result (text.new.items ≡ text.old.items ++ event_text event.now) }
+{
+    push_text(text, b"< ")?;
+    write_event(alloc, event, text)?;
+    push_text(text, b"\n")
 }
 
 fn line_of(alloc: Global, event: &Event) -> Result<Vec<u8>, AllocError>

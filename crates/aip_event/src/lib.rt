@@ -4,9 +4,7 @@
 //! ```text
 //! if let Some(input) = read_input(alloc, b"deliver 3")? {
 //!     // .. a step of the network takes the input, and gives events:
-//!     for event in events.as_slice() {
-//!         write_event(alloc, event, &mut text)?;
-//!     }
+//!     write_events(alloc, events.as_slice(), &mut text)?;
 //! }
 //! ```
 #![tactic(auto)]
@@ -22,7 +20,7 @@ mod shapes;
 
 pub use event::{Cause, Event, Events, Reason};
 pub use event_reading::read_event;
-pub use event_writing::write_event;
+pub use event_writing::{write_event, write_events};
 pub use input::{Input, Target};
 pub use input_reading::read_input;
 pub use input_writing::write_input;

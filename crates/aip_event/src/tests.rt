@@ -129,3 +129,16 @@ fn events_are_kept_in_order(rt: HostRuntime) -> Result<(), Fail> {
     assert_eq!(rt; events.as_slice().len(), 2);
     Ok(())
 }
+
+#[test]
+fn events_are_written_each_on_its_line(rt: HostRuntime) -> Result<(), Fail> {
+    let got = read_event(rt.alloc(), b"got b 1")?.ok_or("an event")?;
+    let heard = read_event(rt.alloc(), b"heard a 1")?.ok_or("an event")?;
+    let mut out = Vec::from_slice(rt.alloc(), b"> deliver 0\n")?;
+    write_events(rt.alloc(), &[got, heard], &mut out)?;
+    assert_eq!(rt;
+        out.as_slice(),
+        b"> deliver 0\n< got b 1\n< heard a 1\n".as_slice()
+    );
+    Ok(())
+}

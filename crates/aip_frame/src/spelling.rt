@@ -4,12 +4,12 @@ ghost use Rattle.aip_addr.specs.Ids.{address_bytes};
 ghost use Rattle.aip_frame.specs.Frame.{kind_code, most_body, challenge_body, frame_bytes, frame_of};
 
 use crate::frame::{Frame, Kind};
-use aip_addr::{Address, Bytes, Memory};
-use std::alloc::Global;
+use aip_addr::{Address, Bytes};
+use std::alloc::{AllocError, Global};
 
 /// The bytes of a frame: 90, then the body. They read back as the frame. The only error is want of
 /// memory.
-pub fn encode(alloc: Global, frame: &Frame) -> Result<Bytes, Memory>
+pub fn encode(alloc: Global, frame: &Frame) -> Result<Bytes, AllocError>
     requires body { length frame.now.body ≤ most_body }
     requires challenge { frame.now.kind ≡ Kind.Challenge → length frame.now.body ≡ challenge_body }
     ensures spelled { IfOk result (λ b. b ≡ frame_bytes frame.now) }
@@ -24,7 +24,7 @@ pub fn encode(alloc: Global, frame: &Frame) -> Result<Bytes, Memory>
     Ok(Bytes::from_vec(out))
 }
 
-fn push_head(out: &mut Vec<u8>, kind: Kind, hop: u8, packet: u32) -> Result<(), Memory>
+fn push_head(out: &mut Vec<u8>, kind: Kind, hop: u8, packet: u32) -> Result<(), AllocError>
     ensures spelled { OnOk result (out.new.items ≡ out.old.items ++ (1 ∷ kind_code kind ∷ hop ∷ 0 ∷ big_bytes 4 packet)) }
     ensures hop { hop < 256 }
     ensures packet { packet < 2 ^ 32 }
@@ -33,7 +33,7 @@ fn push_head(out: &mut Vec<u8>, kind: Kind, hop: u8, packet: u32) -> Result<(), 
     out.extend_from_slice(&packet.to_be_bytes())
 }
 
-fn push_address(out: &mut Vec<u8>, address: &Address) -> Result<(), Memory>
+fn push_address(out: &mut Vec<u8>, address: &Address) -> Result<(), AllocError>
     ensures spelled { OnOk result (out.new.items ≡ out.old.items ++ address_bytes address.now) }
     ensures ad { length address.now.ad.bytes ≡ 20 }
     ensures eid { length address.now.eid.bytes ≡ 20 }
@@ -41,7 +41,7 @@ fn push_address(out: &mut Vec<u8>, address: &Address) -> Result<(), Memory>
     out.extend_from_slice(&address.write())
 }
 
-fn push_body(out: &mut Vec<u8>, body: &[u8]) -> Result<(), Memory>
+fn push_body(out: &mut Vec<u8>, body: &[u8]) -> Result<(), AllocError>
     requires { length body.now ≤ most_body }
     ensures { OnOk result (out.new.items ≡ out.old.items ++ (big_bytes 2 (length body.now) ++ body.now)) }
 {

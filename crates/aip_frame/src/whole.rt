@@ -5,12 +5,12 @@ ghost use Rattle.aip_frame.specs.Laws.{NoPrefixIsAFrame, NoLongerIsAFrame};
 
 use crate::fields::{body_of, from_of, hop_of, is_frame, kind_of, packet_of, to_of};
 use crate::frame::Frame;
-use aip_addr::{Bytes, Memory};
+use aip_addr::Bytes;
 use sha2::{Digest, Sha256};
-use std::alloc::Global;
+use std::alloc::{AllocError, Global};
 
 /// The frame that the bytes spell, and None exactly where they spell none. The only error is want of memory.
-pub fn parse(alloc: Global, bytes: &[u8]) -> Result<Option<Frame>, Memory>
+pub fn parse(alloc: Global, bytes: &[u8]) -> Result<Option<Frame>, AllocError>
     ensures exact { IfOk result (λ parsed. parsed ≡ frame_of bytes.now) }
     ensures sound { IfOk result (λ parsed. IfSome parsed (λ f. IsFrame bytes.now f)) }
 {

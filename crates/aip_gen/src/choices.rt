@@ -6,11 +6,11 @@ ghost use Rattle.aip_gen.specs.Lines.{chosen_input, cut_input, deliver_input, ho
 ghost use Rattle.aip_gen.specs.Network.{host_name, router_name};
 
 use crate::draws::below;
-use aip_addr::{Bytes, Memory, Name};
+use aip_addr::{Bytes, Name};
 use aip_event::Input;
 use aip_text::push_number;
 use rand_xoshiro::SplitMix64;
-use std::alloc::Global;
+use std::alloc::{AllocError, Global};
 
 const HOSTS: u64 = 24;
 
@@ -24,7 +24,7 @@ pub fn line_input(
     alloc: Global,
     index: u32,
     flights: u32,
-) -> Result<Input, Memory>
+) -> Result<Input, AllocError>
     ensures drawn { IfOk result (λ input. input ≡ (line_input index flights words.old).0) }
     ensures state { IfOk result (λ input. words.new ≡ (line_input index flights words.old).1) }
     ensures grammar { IfOk result (λ input. IsInput input) }
@@ -39,7 +39,7 @@ fn chosen_input(
     index: u32,
     flights: u32,
     x: u64,
-) -> Result<Input, Memory>
+) -> Result<Input, AllocError>
     ensures drawn { IfOk result (λ input. input ≡ (chosen_input index flights x words.old).0) }
     ensures state { IfOk result (λ input. words.new ≡ (chosen_input index flights x words.old).1) }
     ensures grammar { IfOk result (λ input. IsInput input) }
@@ -66,7 +66,7 @@ fn tick_input(words: &mut SplitMix64) -> Input
     }
 }
 
-fn send_input(words: &mut SplitMix64, alloc: Global, index: u32) -> Result<Input, Memory>
+fn send_input(words: &mut SplitMix64, alloc: Global, index: u32) -> Result<Input, AllocError>
     ensures drawn { IfOk result (λ input. input ≡ (send_input index words.old).0) }
     ensures state { IfOk result (λ input. words.new ≡ (send_input index words.old).1) }
     ensures grammar { IfOk result (λ input. IsInput input) }
@@ -82,7 +82,7 @@ fn send_input(words: &mut SplitMix64, alloc: Global, index: u32) -> Result<Input
     })
 }
 
-fn shutoff_input(words: &mut SplitMix64, alloc: Global, flights: u32) -> Result<Input, Memory>
+fn shutoff_input(words: &mut SplitMix64, alloc: Global, flights: u32) -> Result<Input, AllocError>
     ensures drawn { IfOk result (λ input. input ≡ (shutoff_input flights words.old).0) }
     ensures state { IfOk result (λ input. words.new ≡ (shutoff_input flights words.old).1) }
     ensures grammar { IfOk result (λ input. IsInput input) }
@@ -99,7 +99,7 @@ fn shutoff_input(words: &mut SplitMix64, alloc: Global, flights: u32) -> Result<
     })
 }
 
-fn router_restart(words: &mut SplitMix64, alloc: Global) -> Result<Input, Memory>
+fn router_restart(words: &mut SplitMix64, alloc: Global) -> Result<Input, AllocError>
     ensures drawn { IfOk result (λ input. input ≡ (router_restart words.old).0) }
     ensures state { IfOk result (λ input. words.new ≡ (router_restart words.old).1) }
     ensures grammar { IfOk result (λ input. IsInput input) }
@@ -108,7 +108,7 @@ fn router_restart(words: &mut SplitMix64, alloc: Global) -> Result<Input, Memory
     Ok(Input::Restart { node })
 }
 
-fn host_restart(words: &mut SplitMix64, alloc: Global) -> Result<Input, Memory>
+fn host_restart(words: &mut SplitMix64, alloc: Global) -> Result<Input, AllocError>
     ensures drawn { IfOk result (λ input. input ≡ (host_restart words.old).0) }
     ensures state { IfOk result (λ input. words.new ≡ (host_restart words.old).1) }
     ensures grammar { IfOk result (λ input. IsInput input) }
@@ -161,7 +161,7 @@ fn some_flight(words: &mut SplitMix64, flights: u32) -> u64
     flights - 1 - below(words, flights.min(64))
 }
 
-fn some_host(words: &mut SplitMix64, alloc: Global) -> Result<Name, Memory>
+fn some_host(words: &mut SplitMix64, alloc: Global) -> Result<Name, AllocError>
     ensures drawn { IfOk result (λ name. name ≡ (some_host words.old).0) }
     ensures state { IfOk result (λ name. words.new ≡ (some_host words.old).1) }
     ensures grammar { IfOk result (λ name. IsName name) }
@@ -170,7 +170,7 @@ fn some_host(words: &mut SplitMix64, alloc: Global) -> Result<Name, Memory>
     numbered_name(alloc, b'h', number)
 }
 
-fn some_router(words: &mut SplitMix64, alloc: Global) -> Result<Name, Memory>
+fn some_router(words: &mut SplitMix64, alloc: Global) -> Result<Name, AllocError>
     ensures drawn { IfOk result (λ name. name ≡ (some_router words.old).0) }
     ensures state { IfOk result (λ name. words.new ≡ (some_router words.old).1) }
     ensures grammar { IfOk result (λ name. IsName name) }
@@ -180,7 +180,7 @@ fn some_router(words: &mut SplitMix64, alloc: Global) -> Result<Name, Memory>
 }
 
 // The name that is a letter and a number.
-fn numbered_name(alloc: Global, letter: u8, number: u64) -> Result<Name, Memory>
+fn numbered_name(alloc: Global, letter: u8, number: u64) -> Result<Name, AllocError>
     requires letter { is_letter letter ≡ true }
     requires short { number < 100 }
     ensures spelling { IfOk result (λ name. name ≡ letter ∷ decimal number) }

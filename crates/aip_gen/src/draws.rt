@@ -1,10 +1,10 @@
 ghost use Rattle.std.specs.Prelude.{◌≡◌, ◌<◌, ◌++◌, OnOk};
 ghost use Rattle.aip_gen.specs.Draws.{below, secret, word, word_in_hex};
 
-use aip_addr::Memory;
 use aip_text::push_hex;
 use rand_xoshiro::SplitMix64;
 use rand_xoshiro::rand_core::utils::NextWord;
+use std::alloc::AllocError;
 
 // The next word.
 #[tactic(auto, unfolding(crate::specs::Draws::word))]
@@ -26,7 +26,7 @@ pub fn below(words: &mut SplitMix64, m: u64) -> u64
 }
 
 // Appends the next word in hex, the high byte first.
-fn push_word_in_hex(words: &mut SplitMix64, out: &mut Vec<u8>) -> Result<(), Memory>
+fn push_word_in_hex(words: &mut SplitMix64, out: &mut Vec<u8>) -> Result<(), AllocError>
     ensures drawn { OnOk result (out.new.items ≡ out.old.items ++ (word_in_hex words.old).0) }
     ensures state { OnOk result (words.new ≡ (word_in_hex words.old).1) }
 {
@@ -35,7 +35,7 @@ fn push_word_in_hex(words: &mut SplitMix64, out: &mut Vec<u8>) -> Result<(), Mem
 
 /// Appends a drawn secret in hex: four words, 64 digits.
 #[tactic(auto, unfolding(crate::specs::Draws::secret))]
-pub fn push_secret(words: &mut SplitMix64, out: &mut Vec<u8>) -> Result<(), Memory>
+pub fn push_secret(words: &mut SplitMix64, out: &mut Vec<u8>) -> Result<(), AllocError>
     ensures drawn { OnOk result (out.new.items ≡ out.old.items ++ (secret words.old).0) }
     ensures state { OnOk result (words.new ≡ (secret words.old).1) }
 {

@@ -5,11 +5,11 @@ ghost use Rattle.aip_gen.specs.Network.{topology_text};
 
 use crate::choices::line_input;
 use crate::topology::topology_text;
-use aip_addr::{Bytes, Memory};
+use aip_addr::Bytes;
 use aip_event::Input;
 use rand_xoshiro::SplitMix64;
 use rand_xoshiro::rand_core::SeedableRng;
-use std::alloc::Global;
+use std::alloc::{AllocError, Global};
 use std::marker::Model;
 
 /// A generator of made workloads: the words of SplitMix64, each 64 bits, that are still to come.
@@ -40,7 +40,7 @@ impl Gen {
     /// The text of the topology: 46 lines, each ended by a line feed, of two settings, 4 domains, 8
     /// routers, 8 links and 24 hosts. The only error is want of memory, and nothing is told of the
     /// generator behind it.
-    pub fn topology(&mut self, alloc: Global) -> Result<Bytes, Memory>
+    pub fn topology(&mut self, alloc: Global) -> Result<Bytes, AllocError>
         ensures text { IfOk result (λ text. text ≡ (topology_text self.old).0) }
         ensures state { IfOk result (λ text. self.new ≡ (topology_text self.old).1) }
     {
@@ -51,7 +51,7 @@ impl Gen {
     /// before it. A workload has the lines with an index below 60,000; the rule is the same past
     /// it. The input is of the grammar of schedules. The only error is want of memory, and nothing
     /// is told of the generator behind it.
-    pub fn line(&mut self, alloc: Global, index: u32, flights: u32) -> Result<Input, Memory>
+    pub fn line(&mut self, alloc: Global, index: u32, flights: u32) -> Result<Input, AllocError>
         ensures input { IfOk result (λ input. input ≡ (line_input index flights self.old).0) }
         ensures state { IfOk result (λ input. self.new ≡ (line_input index flights self.old).1) }
         ensures grammar { IfOk result (λ input. IsInput input) }

@@ -3,10 +3,10 @@ ghost use Rattle.aip_gen.specs.Draws.{numbered, secret};
 ghost use Rattle.aip_gen.specs.Network.{domain_line, ends_words, host_line, link_line, part_line, router_line, topology_text};
 
 use crate::draws::push_secret;
-use aip_addr::{Bytes, Memory};
+use aip_addr::Bytes;
 use aip_text::{push_number, push_text, push_word};
 use rand_xoshiro::SplitMix64;
-use std::alloc::Global;
+use std::alloc::{AllocError, Global};
 
 /// A part of a network that has a line.
 #[derive(Clone, Copy, Debug)]
@@ -22,7 +22,7 @@ pub enum Part {
 }
 
 /// The text of the topology.
-pub fn topology_text(words: &mut SplitMix64, alloc: Global) -> Result<Bytes, Memory>
+pub fn topology_text(words: &mut SplitMix64, alloc: Global) -> Result<Bytes, AllocError>
     ensures drawn { IfOk result (λ text. text ≡ (topology_text words.old).0) }
     ensures state { IfOk result (λ text. words.new ≡ (topology_text words.old).1) }
 {
@@ -40,7 +40,7 @@ fn push_lines(
     out: &mut Vec<u8>,
     part: Part,
     count: u64,
-) -> Result<(), Memory>
+) -> Result<(), AllocError>
     ensures drawn { OnOk result (out.new.items ≡ out.old.items ++ (numbered (part_line part) count words.old).0) }
     ensures state { OnOk result (words.new ≡ (numbered (part_line part) count words.old).1) }
 {
@@ -55,7 +55,7 @@ fn push_line(
     out: &mut Vec<u8>,
     part: Part,
     number: u64,
-) -> Result<(), Memory>
+) -> Result<(), AllocError>
     ensures drawn { OnOk result (out.new.items ≡ out.old.items ++ (part_line part number words.old).0) }
     ensures state { OnOk result (words.new ≡ (part_line part number words.old).1) }
 {
@@ -67,7 +67,7 @@ fn push_line(
     }
 }
 
-fn push_domain(words: &mut SplitMix64, out: &mut Vec<u8>, number: u64) -> Result<(), Memory>
+fn push_domain(words: &mut SplitMix64, out: &mut Vec<u8>, number: u64) -> Result<(), AllocError>
     ensures drawn { OnOk result (out.new.items ≡ out.old.items ++ (domain_line number words.old).0) }
     ensures state { OnOk result (words.new ≡ (domain_line number words.old).1) }
 {
@@ -75,7 +75,7 @@ fn push_domain(words: &mut SplitMix64, out: &mut Vec<u8>, number: u64) -> Result
     push_last_words(words, out, b" seed W4 H5 ")
 }
 
-fn push_router(words: &mut SplitMix64, out: &mut Vec<u8>, number: u64) -> Result<(), Memory>
+fn push_router(words: &mut SplitMix64, out: &mut Vec<u8>, number: u64) -> Result<(), AllocError>
     ensures drawn { OnOk result (out.new.items ≡ out.old.items ++ (router_line number words.old).0) }
     ensures state { OnOk result (words.new ≡ (router_line number words.old).1) }
 {
@@ -85,7 +85,7 @@ fn push_router(words: &mut SplitMix64, out: &mut Vec<u8>, number: u64) -> Result
 }
 
 // Appends the words before a name's number, and the number.
-fn push_name(out: &mut Vec<u8>, before: &[u8], number: u64) -> Result<(), Memory>
+fn push_name(out: &mut Vec<u8>, before: &[u8], number: u64) -> Result<(), AllocError>
     ensures { OnOk result (out.new.items ≡ out.old.items ++ before.now ++ decimal number) }
 {
     push_text(out, before)?;
@@ -93,7 +93,11 @@ fn push_name(out: &mut Vec<u8>, before: &[u8], number: u64) -> Result<(), Memory
 }
 
 // Appends the words before a secret, a drawn secret and a line feed.
-fn push_last_words(words: &mut SplitMix64, out: &mut Vec<u8>, before: &[u8]) -> Result<(), Memory>
+fn push_last_words(
+    words: &mut SplitMix64,
+    out: &mut Vec<u8>,
+    before: &[u8],
+) -> Result<(), AllocError>
     ensures drawn { OnOk result (out.new.items ≡ out.old.items ++ before.now ++ (secret words.old).0 ++ 10 ∷ []) }
     ensures state { OnOk result (words.new ≡ (secret words.old).1) }
 {
@@ -102,7 +106,7 @@ fn push_last_words(words: &mut SplitMix64, out: &mut Vec<u8>, before: &[u8]) -> 
     push_text(out, b"\n")
 }
 
-fn push_link(out: &mut Vec<u8>, number: u64) -> Result<(), Memory>
+fn push_link(out: &mut Vec<u8>, number: u64) -> Result<(), AllocError>
     ensures { OnOk result (out.new.items ≡ out.old.items ++ link_line number) }
 {
     push_name(out, b"link r", number)?;
@@ -128,7 +132,7 @@ fn ends_words(within: bool) -> &'static [u8]
     }
 }
 
-fn push_host(words: &mut SplitMix64, out: &mut Vec<u8>, number: u64) -> Result<(), Memory>
+fn push_host(words: &mut SplitMix64, out: &mut Vec<u8>, number: u64) -> Result<(), AllocError>
     ensures drawn { OnOk result (out.new.items ≡ out.old.items ++ (host_line number words.old).0) }
     ensures state { OnOk result (words.new ≡ (host_line number words.old).1) }
 {

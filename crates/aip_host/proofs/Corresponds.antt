@@ -11,7 +11,7 @@ use Rattle.aip_topo.specs.declared.topology.Topology.{Topology}
 use Rattle.lms_core.specs.Tree.{Key}
 use Rattle.sent_log.specs.Log as log
 use Rattle.sent_log.specs.declared.log.Noted.{Noted}
-use Rattle.shutoff_filter.specs.declared.entries.Entry.{Entry as ShutOff}
+use Rattle.shutoff_filter.specs.declared.entries.ShutOffEntry.{ShutOffEntry as ShutOff}
 use Rattle.shutoff_filter.specs.Entries.{SameInForce, in_force, is_withheld}
 use Rattle.shutoff_filter.specs.InForce.{same_in_force}
 use Rattle.aip_rules.specs.declared.Arming.{Arming}
@@ -27,17 +27,17 @@ use Rattle.aip_rules.specs.Host.{handed_down, put_by, shut_by, taken_at_host, at
 use Rattle.aip_rules.specs.Step.{with_events, after_step}
 use Rattle.aip_host.specs.HostState.{HostState, halt_in, shut_in, down_of, standing_of}
 use Rattle.aip_host.specs.After.{Follows, IsNew, next_past, stop_past, halt_past, down_past, told_past, logged}
-use Rattle.aip_host.specs.StandsFor.{StandsFor, DisksServe}
+use Rattle.aip_host.specs.StandsFor.{HostStandsFor, DisksServe}
 use Rattle.aip_host.proofs.Grown.{next_with, stop_with, halt_with, down_with, told_with, now_with, told_alike, up_before, next_put, stop_put, halt_put, down_put, told_put, noted_put, frames_with_put, logged_stands, logged_room, no_restart, no_stop, no_halt, no_ticks}
 
 -- ---- a host reacts as the rules do on the trace
 
 -- the shut-offs in force are those that the trace told
-same_shut : (topo : Topology) (tr : List Entry) (at : Seat) (kept : HostState) → StandsFor topo tr at kept → in_force (now_of tr) (shut_in kept.guard) ≡ in_force (now_of tr) (told_to tr at.name)
+same_shut : (topo : Topology) (tr : List Entry) (at : Seat) (kept : HostState) → HostStandsFor topo tr at kept → in_force (now_of tr) (shut_in kept.guard) ≡ in_force (now_of tr) (told_to tr at.name)
 same_shut topo tr at kept stands = sym (same_in_force (now_of tr) (told_to tr at.name) (shut_in kept.guard) stands.told)
 
 -- what stands for a host that is up, by what it keeps, is what stands for it after the trace
-pub same_standing : (topo : Topology) (tr : List Entry) (at : Seat) (kept : HostState) → StandsFor topo tr at kept → down_of kept ≡ false
+pub same_standing : (topo : Topology) (tr : List Entry) (at : Seat) (kept : HostState) → HostStandsFor topo tr at kept → down_of kept ≡ false
     → standing_of kept (now_of tr) ≡ standing topo tr at
 same_standing topo tr at kept stands up =
     let stop = stands.stop up in
@@ -49,7 +49,7 @@ same_standing topo tr at kept stands up =
 abbrev unless_down : (Standing → Reaction) → Standing → Reaction
 unless_down react s = if s.down then dropped s.seat.name reason.Down else react s
 
-module _ (topo : Topology) (tr : List Entry) (at : Seat) (kept : HostState) (stands : StandsFor topo tr at kept) where
+module _ (topo : Topology) (tr : List Entry) (at : Seat) (kept : HostState) (stands : HostStandsFor topo tr at kept) where
   same_down : (react : Standing → Reaction) → down_of kept ≡ true → unless_down react (standing_of kept (now_of tr)) ≡ unless_down react (standing topo tr at)
   same_down react down =
       let fallen : is_down tr at.name ≡ true = sym stands.down ∙ down in
@@ -91,7 +91,7 @@ says_nothing topo tr at plain = rw plain refl
 
 -- a new host stands for the trace of no inputs
 pub starts : (topo : Topology) (at : Seat) (kept : HostState)
-    → IsNew at (target.Port (name_at topo.routers at.router) at.port) topo.settings (key_named topo.parts at.name) (is_guarded topo.parts at.name) kept → DisksServe kept → StandsFor topo [] at kept
+    → IsNew at (target.Port (name_at topo.routers at.router) at.port) topo.settings (key_named topo.parts at.name) (is_guarded topo.parts at.name) kept → DisksServe kept → HostStandsFor topo [] at kept
 starts topo at kept new disks = record {
   seat = new.place;
   towards = new.port;
@@ -116,11 +116,11 @@ starts topo at kept new disks = record {
 -- ---- after a reaction of its own
 
 -- the frames of a log that stands for what was put
-log_frames : (room : ℕ) (kept : log.Log) (frames : List Noted) → kept.room ≡ room → kept.frames ≡ take room frames → log.StandsFor frames kept
+log_frames : (room : ℕ) (kept : log.Log) (frames : List Noted) → kept.room ≡ room → kept.frames ≡ take room frames → log.LogStandsFor frames kept
 log_frames room kept frames same is = record { frames = is ∙ ap (λ r. take r frames) (sym same) }
 
 module _ (topo : Topology) (tr : List Entry) (kept after : HostState) (input : Input) (number : ℕ) (reaction : Reaction)
-    (stands : StandsFor topo tr kept.seat kept) (moved : Follows (now_of tr) kept reaction after) (disks : DisksServe after) (acting : lets_act tr input kept.seat.name ≡ true) where
+    (stands : HostStandsFor topo tr kept.seat kept) (moved : Follows (now_of tr) kept reaction after) (disks : DisksServe after) (acting : lets_act tr input kept.seat.name ≡ true) where
   abbrev name : List ℕ
   name = kept.seat.name
 
@@ -161,7 +161,7 @@ module _ (topo : Topology) (tr : List Entry) (kept after : HostState) (input : I
   was_up : down_of after ≡ false → down_of kept ≡ false
   was_up up = stands.down ∙ up_before reaction.events name (is_down tr name) (sym now_down ∙ up)
 
-  now_logged : log.StandsFor (noted_put reaction.put ++ frames_put tr name) (logged kept.log reaction.put)
+  now_logged : log.LogStandsFor (noted_put reaction.put ++ frames_put tr name) (logged kept.log reaction.put)
   now_logged = logged_stands reaction.put kept.log (frames_put tr name) (log_frames topo.settings.log kept.log (frames_put tr name) stands.log_room stands.log)
 
   log_room : after.log.room ≡ topo.settings.log
@@ -189,7 +189,7 @@ module _ (topo : Topology) (tr : List Entry) (kept after : HostState) (input : I
   all_frames : frames_put (with_events all mid) name ≡ noted_put reaction.put ++ frames_put tr name
   all_frames = frames_with_put reaction.events number reaction.put mid name moved.quiet acting ∙ ap (λ fs. noted_put reaction.put ++ fs) same_frames
 
-  follows_own : StandsFor topo (with_events all mid) kept.seat after
+  follows_own : HostStandsFor topo (with_events all mid) kept.seat after
   follows_own = record {
     seat = moved.seat;
     towards = moved.towards ∙ stands.towards;
@@ -215,8 +215,8 @@ module _ (topo : Topology) (tr : List Entry) (kept after : HostState) (input : I
 
 -- after an input that lets a host act, the host stands for the trace with its reaction
 pub follows : (topo : Topology) (tr : List Entry) (at : Seat) (kept after : HostState) (input : Input) (number : ℕ) (reaction : Reaction)
-    → StandsFor topo tr at kept → Follows (now_of tr) kept reaction after → DisksServe after → lets_act tr input at.name ≡ true
-    → StandsFor topo (after_step tr input (numbered number reaction)) at after
+    → HostStandsFor topo tr at kept → Follows (now_of tr) kept reaction after → DisksServe after → lets_act tr input at.name ≡ true
+    → HostStandsFor topo (after_step tr input (numbered number reaction)) at after
 follows topo tr at kept after input number reaction stands moved disks acting =
-    let P : Seat → Type 0 = λ place. StandsFor topo tr place kept → lets_act tr input place.name ≡ true → StandsFor topo (after_step tr input (numbered number reaction)) place after in
+    let P : Seat → Type 0 = λ place. HostStandsFor topo tr place kept → lets_act tr input place.name ≡ true → HostStandsFor topo (after_step tr input (numbered number reaction)) place after in
     subst P stands.seat (λ own own_acting. follows_own topo tr kept after input number reaction own moved disks own_acting) stands acting

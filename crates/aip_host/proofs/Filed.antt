@@ -7,7 +7,7 @@ use Rattle.lease_disk.specs.Calls.{Ran}
 use Rattle.lease_disk.specs.Past.{content_of}
 use Rattle.lease_disk.specs.PastLaws.{content_is_image, still_content}
 use Rattle.lease_disk.specs.MemDisk.{DiskState, Leads, told_of, new_disk, left_by, restarted, risen}
-use Rattle.shutoff_filter.specs.declared.entries.Entry.{Entry}
+use Rattle.shutoff_filter.specs.declared.entries.ShutOffEntry.{ShutOffEntry}
 use Rattle.shutoff_filter.specs.declared.formatting.StoreFormatEnd.{StoreFormatEnd}
 use Rattle.shutoff_filter.specs.declared.formatting.StoreFormatEnd.TheVariants.{Already, Failed}
 use Rattle.shutoff_filter.specs.declared.slots.Slot.{Slot}
@@ -53,7 +53,7 @@ format_rests room old new small is ran told =
     }
 
 -- a guard that is up, on a disk that is at rest
-pub rest_up : (room : ℕ) (entries : List Entry) (halt : Option Arming) (disk : DiskState) → IsAtRest room entries disk → IsHalting halt
+pub rest_up : (room : ℕ) (entries : List ShutOffEntry) (halt : Option Arming) (disk : DiskState) → IsAtRest room entries disk → IsHalting halt
     → Keeps (record { room = room; entries = entries; halt = halt; is_down = false; disk = disk })
 rest_up room entries halt disk rest halting = record {
   holds = rest.holds;
@@ -65,16 +65,16 @@ rest_up room entries halt disk rest halting = record {
 }
 
 -- the entries of a filter that was opened are those of its file
-pub opened_entries : (room : ℕ) (entries : List Entry) (slots : List Slot) (disk : DiskState) → IsAtRest room entries disk → length slots ≡ room + 1
+pub opened_entries : (room : ℕ) (entries : List ShutOffEntry) (slots : List Slot) (disk : DiskState) → IsAtRest room entries disk → length slots ≡ room + 1
     → IsFilterOf room slots (content_of disk.base disk.past) → entries_of slots ≡ entries
 opened_entries room entries slots disk rest whole is = sym (entries_same room slots (content_of disk.base disk.past) whole is) ∙ rest.file.same
 
 -- a guard that was opened on a disk at rest keeps its entries there
-pub is_opened : (room same : ℕ) (entries others : List Entry) (disk new : DiskState) (count : ℕ) → IsAtRest room entries disk → same ≡ room → others ≡ entries
+pub is_opened : (room same : ℕ) (entries others : List ShutOffEntry) (disk new : DiskState) (count : ℕ) → IsAtRest room entries disk → same ≡ room → others ≡ entries
     → Ran Leads disk (Sync ∷ Len ∷ Read 0 count ∷ []) true new
     → Keeps (record { room = same; entries = others; halt = None; is_down = false; disk = new })
 is_opened room same entries others disk new count rest same_room same_entries ran =
-    let Up : ℕ → List Entry → DiskState → Type 0 = λ r es d. Keeps (record { room = r; entries = es; halt = None; is_down = false; disk = d }) in
+    let Up : ℕ → List ShutOffEntry → DiskState → Type 0 = λ r es d. Keeps (record { room = r; entries = es; halt = None; is_down = false; disk = d }) in
     let ends = served_opening disk new count true rest.quiet ran in
     let again : IsAtRest room entries (record disk { calls = risen (risen (risen disk.calls)) })
     = record { holds = rest.holds; quiet = record { unlisted = rest.quiet.unlisted; unarmed = rest.quiet.unarmed; still = rest.quiet.still }; file = rest.file } in

@@ -10,7 +10,7 @@ use Rattle.aip_event.specs.declared.input.Input.TheVariants.{Tick, Send, Raw, De
 use Rattle.sent_log.specs.Log as log
 use Rattle.sent_log.specs.declared.log.Noted.{Noted}
 use Rattle.sent_log.proofs.Standing.{still_stands}
-use Rattle.shutoff_filter.specs.declared.entries.Entry.{Entry as ShutOff}
+use Rattle.shutoff_filter.specs.declared.entries.ShutOffEntry.{ShutOffEntry as ShutOff}
 use Rattle.shutoff_filter.specs.Entries.{SameInForce}
 use Rattle.shutoff_filter.specs.InForce.{same_with_entry}
 use Rattle.aip_rules.specs.declared.Arming.{Arming}
@@ -121,12 +121,12 @@ frames_with_put (event ∷ events) number put tr name quiet acting =
     frames_with_put events number put (Happened event ∷ tr) name quiet.1 acting
     ∙ ap (λ fs. noted_put put ++ fs) (same_choice (acts tr name) (noted_in event) (frames_put tr name) quiet.0)
 
-noted_case : (o : Option Frame) (kept : log.Log) (put : List Noted) → log.StandsFor put kept → log.StandsFor (noted_of o ++ put) (with_noted kept (noted_of o))
+noted_case : (o : Option Frame) (kept : log.Log) (put : List Noted) → log.LogStandsFor put kept → log.LogStandsFor (noted_of o ++ put) (with_noted kept (noted_of o))
 noted_case None kept put stands = stands
 noted_case (Some f) kept put stands = still_stands put kept _ stands
 
 -- a log that stands for what was put still does, once it has noted a flight
-pub logged_stands : (put : Option Flight) (kept : log.Log) (frames : List Noted) → log.StandsFor frames kept → log.StandsFor (noted_put put ++ frames) (logged kept put)
+pub logged_stands : (put : Option Flight) (kept : log.Log) (frames : List Noted) → log.LogStandsFor frames kept → log.LogStandsFor (noted_put put ++ frames) (logged kept put)
 logged_stands None kept frames stands = stands
 logged_stands (Some flight) kept frames stands = noted_case (frame_of flight.bytes) kept frames stands
 

@@ -14,7 +14,7 @@ use Rattle.aip_event.specs.declared.input.Target.{Target}
 use Rattle.aip_event.specs.declared.input.Target.TheVariants as target
 use Rattle.aip_topo.specs.declared.topology.Topology.{Topology}
 use Rattle.sent_log.specs.Log as log
-use Rattle.shutoff_filter.specs.declared.entries.Entry.{Entry as ShutOff}
+use Rattle.shutoff_filter.specs.declared.entries.ShutOffEntry.{ShutOffEntry as ShutOff}
 use Rattle.shutoff_filter.specs.Entries.{SameInForce}
 use Rattle.shutoff_filter.specs.InForce.{same_later}
 use Rattle.aip_rules.specs.declared.Arming.{Arming}
@@ -32,7 +32,7 @@ use Rattle.aip_host.specs.Signing.{KeyState}
 use Rattle.aip_host.specs.Guarding.{GuardState, with_halt}
 use Rattle.aip_host.specs.HostState.{HostState, key_in, down_in, fell_in, shut_in, down_of}
 use Rattle.aip_host.specs.After.{IsRestarted, stopped_in, halted_in, next_past, stop_past, halt_past, down_past}
-use Rattle.aip_host.specs.StandsFor.{StandsFor, DisksServe}
+use Rattle.aip_host.specs.StandsFor.{HostStandsFor, DisksServe}
 use Rattle.aip_host.specs.Elsewhere.{resets, concerns, is_put, AreElsewhere, PutNone}
 use Rattle.aip_host.proofs.Grown.{next_with, stop_with, halt_with, down_with, now_with}
 
@@ -47,9 +47,9 @@ own_up true b up = absurd cc
 own_up false b up = (refl, up)
 
 stops_case : (topo : Topology) (tr : List Entry) (at : Seat) (kept : HostState) (key : Option KeyState) (host : List ℕ) (call byte : ℕ)
-    → StandsFor topo tr at (record kept { key = key }) → bytes_eq host at.name ≡ true → has_key (key_in key) ≡ true
+    → HostStandsFor topo tr at (record kept { key = key }) → bytes_eq host at.name ≡ true → has_key (key_in key) ≡ true
     → DisksServe (record kept { key = stopped_in key (record { call = call; byte = byte }) })
-    → StandsFor topo (after_step tr (Stop host call byte) []) at (record kept { key = stopped_in key (record { call = call; byte = byte }) })
+    → HostStandsFor topo (after_step tr (Stop host call byte) []) at (record kept { key = stopped_in key (record { call = call; byte = byte }) })
 stops_case topo tr at kept None host call byte stands named some disks = absurd cc
 stops_case topo tr at kept (Some key) host call byte stands named some disks = record {
   seat = stands.seat;
@@ -73,15 +73,15 @@ stops_case topo tr at kept (Some key) host call byte stands named some disks = r
 
 -- a host with a key stands for the trace once a stop of its signings is armed
 pub stops : (topo : Topology) (tr : List Entry) (at : Seat) (kept : HostState) (host : List ℕ) (call byte : ℕ)
-    → StandsFor topo tr at kept → bytes_eq host at.name ≡ true → has_key (key_in kept.key) ≡ true → DisksServe (record kept { key = stopped_in kept.key (record { call = call; byte = byte }) })
-    → StandsFor topo (after_step tr (Stop host call byte) []) at (record kept { key = stopped_in kept.key (record { call = call; byte = byte }) })
+    → HostStandsFor topo tr at kept → bytes_eq host at.name ≡ true → has_key (key_in kept.key) ≡ true → DisksServe (record kept { key = stopped_in kept.key (record { call = call; byte = byte }) })
+    → HostStandsFor topo (after_step tr (Stop host call byte) []) at (record kept { key = stopped_in kept.key (record { call = call; byte = byte }) })
 stops topo tr at kept host call byte stands named some disks = stops_case topo tr at kept kept.key host call byte stands named some disks
 
 -- a guard of which only the halt changed, which is armed where it is up
 halt_taken : (topo : Topology) (tr : List Entry) (at : Seat) (kept : HostState) (guard after : GuardState) (host : List ℕ) (call byte : ℕ)
-    → StandsFor topo tr at (record kept { guard = Some guard }) → bytes_eq host at.name ≡ true → DisksServe (record kept { guard = Some after })
+    → HostStandsFor topo tr at (record kept { guard = Some guard }) → bytes_eq host at.name ≡ true → DisksServe (record kept { guard = Some after })
     → after.is_down ≡ guard.is_down → after.entries ≡ guard.entries → (guard.is_down ≡ false → after.halt ≡ Some (record { call = call; byte = byte }))
-    → StandsFor topo (after_step tr (Halt host call byte) []) at (record kept { guard = Some after })
+    → HostStandsFor topo (after_step tr (Halt host call byte) []) at (record kept { guard = Some after })
 halt_taken topo tr at kept guard after host call byte stands named disks same_down same_entries armed =
     let same : down_of (record kept { guard = Some after }) ≡ down_of (record kept { guard = Some guard }) = ap (λ b. down_in kept.key || b) same_down in
     let guarded : true ≡ is_guarded topo.parts at.name = stands.guarded in
@@ -106,9 +106,9 @@ halt_taken topo tr at kept guard after host call byte stands named disks same_do
     }
 
 halts_case : (topo : Topology) (tr : List Entry) (at : Seat) (kept : HostState) (guard : Option GuardState) (host : List ℕ) (call byte : ℕ)
-    → StandsFor topo tr at (record kept { guard = guard }) → bytes_eq host at.name ≡ true
+    → HostStandsFor topo tr at (record kept { guard = guard }) → bytes_eq host at.name ≡ true
     → DisksServe (record kept { guard = halted_in guard (record { call = call; byte = byte }) })
-    → StandsFor topo (after_step tr (Halt host call byte) []) at (record kept { guard = halted_in guard (record { call = call; byte = byte }) })
+    → HostStandsFor topo (after_step tr (Halt host call byte) []) at (record kept { guard = halted_in guard (record { call = call; byte = byte }) })
 halts_case topo tr at kept None host call byte stands named disks = record {
   seat = stands.seat;
   towards = stands.towards;
@@ -139,8 +139,8 @@ halts_case topo tr at kept (Some guard) host call byte stands named disks =
 
 -- a host stands for the trace once a halt is armed at it, which changes nothing without a guard
 pub halts : (topo : Topology) (tr : List Entry) (at : Seat) (kept : HostState) (host : List ℕ) (call byte : ℕ)
-    → StandsFor topo tr at kept → bytes_eq host at.name ≡ true → DisksServe (record kept { guard = halted_in kept.guard (record { call = call; byte = byte }) })
-    → StandsFor topo (after_step tr (Halt host call byte) []) at (record kept { guard = halted_in kept.guard (record { call = call; byte = byte }) })
+    → HostStandsFor topo tr at kept → bytes_eq host at.name ≡ true → DisksServe (record kept { guard = halted_in kept.guard (record { call = call; byte = byte }) })
+    → HostStandsFor topo (after_step tr (Halt host call byte) []) at (record kept { guard = halted_in kept.guard (record { call = call; byte = byte }) })
 halts topo tr at kept host call byte stands named disks = halts_case topo tr at kept kept.guard host call byte stands named disks
 
 -- ---- what happens elsewhere
@@ -231,7 +231,7 @@ no_halt _ name halt is = refl
 
 -- a host stands for the trace after events none of which concerns it, where it doesn't act or none of them puts a flight
 events_stay : (topo : Topology) (tr : List Entry) (at : Seat) (kept : HostState) (events : List Event)
-    → StandsFor topo tr at kept → AreElsewhere at.name events → (acts tr at.name ≡ false) ⊎ PutNone events → StandsFor topo (with_events events tr) at kept
+    → HostStandsFor topo tr at kept → AreElsewhere at.name events → (acts tr at.name ≡ false) ⊎ PutNone events → HostStandsFor topo (with_events events tr) at kept
 events_stay topo tr at kept events stands are idle = record {
   seat = stands.seat;
   towards = stands.towards;
@@ -251,7 +251,7 @@ events_stay topo tr at kept events stands are idle = record {
 }
 
 -- and after an input that neither starts it anew nor arms a stop or a halt of its
-input_stays : (topo : Topology) (tr : List Entry) (at : Seat) (kept : HostState) (input : Input) → StandsFor topo tr at kept → resets input at.name ≡ false → StandsFor topo (Taken input ∷ tr) at kept
+input_stays : (topo : Topology) (tr : List Entry) (at : Seat) (kept : HostState) (input : Input) → HostStandsFor topo tr at kept → resets input at.name ≡ false → HostStandsFor topo (Taken input ∷ tr) at kept
 input_stays topo tr at kept input stands same = record {
   seat = stands.seat;
   towards = stands.towards;
@@ -272,15 +272,15 @@ input_stays topo tr at kept input stands same = record {
 -- A host stands for the trace after an input that neither starts it anew nor arms a stop or a halt of its, and events none of
 -- which concerns it, where it doesn't act by the input or none of the events puts a flight.
 pub others_stay : (topo : Topology) (tr : List Entry) (at : Seat) (kept : HostState) (input : Input) (events : List Event)
-    → StandsFor topo tr at kept → resets input at.name ≡ false → AreElsewhere at.name events → (lets_act tr input at.name ≡ false) ⊎ PutNone events
-    → StandsFor topo (after_step tr input events) at kept
+    → HostStandsFor topo tr at kept → resets input at.name ≡ false → AreElsewhere at.name events → (lets_act tr input at.name ≡ false) ⊎ PutNone events
+    → HostStandsFor topo (after_step tr input events) at kept
 others_stay topo tr at kept input events stands same are idle =
     events_stay topo (Taken input ∷ tr) at kept events (input_stays topo tr at kept input stands same) are idle
 
 -- ---- restarts
 
 restart_taken : (topo : Topology) (tr : List Entry) (at : Seat) (kept after : HostState) (node : List ℕ)
-    → StandsFor topo tr at kept → bytes_eq node at.name ≡ true → IsRestarted kept after → DisksServe after → StandsFor topo (Taken (Restart node) ∷ tr) at after
+    → HostStandsFor topo tr at kept → bytes_eq node at.name ≡ true → IsRestarted kept after → DisksServe after → HostStandsFor topo (Taken (Restart node) ∷ tr) at after
 restart_taken topo tr at kept after node stands named anew disks = record {
   seat = anew.seat ∙ stands.seat;
   towards = anew.towards ∙ stands.towards;
@@ -314,8 +314,8 @@ kept_none host (entry ∷ entries) = (refl, kept_none host entries)
 
 -- a host that was started anew stands for the trace, with what it says then
 pub restarts : (topo : Topology) (tr : List Entry) (at : Seat) (kept after : HostState) (node : List ℕ) (number : ℕ)
-    → StandsFor topo tr at kept → bytes_eq node at.name ≡ true → IsRestarted kept after → DisksServe after
-    → StandsFor topo (after_step tr (Restart node) (numbered number (back_up (standing topo tr at)))) at after
+    → HostStandsFor topo tr at kept → bytes_eq node at.name ≡ true → IsRestarted kept after → DisksServe after
+    → HostStandsFor topo (after_step tr (Restart node) (numbered number (back_up (standing topo tr at)))) at after
 restarts topo tr at kept after node number stands named anew disks =
     events_stay topo (Taken (Restart node) ∷ tr) at after (numbered number (back_up (standing topo tr at)))
     (restart_taken topo tr at kept after node stands named anew disks)

@@ -18,7 +18,7 @@ use Rattle.shutoff_filter.specs.Body.{order_in}
 use Rattle.shutoff_filter.specs.Entries.{SameInForce, is_key, is_withheld, others_in_force, withholds}
 use Rattle.shutoff_filter.specs.InForce.{one_key, withheld_in_force}
 use Rattle.shutoff_filter.specs.Judged.{is_full, is_in_log, refusal_number, shutoff_verdict}
-use Rattle.shutoff_filter.specs.declared.entries.Entry.{Entry}
+use Rattle.shutoff_filter.specs.declared.entries.ShutOffEntry.{ShutOffEntry}
 use Rattle.shutoff_filter.specs.declared.judging.Heard.{Heard}
 use Rattle.shutoff_filter.specs.declared.judging.Heard.TheVariants as heard
 use Rattle.aip_rules.specs.declared.Arming.{Arming}
@@ -112,7 +112,7 @@ either true b is = refl
 either false b is = is
 
 -- a key identifier that is withheld at the last tick before a time is withheld at each earlier tick
-lasts_before : (until time : ℕ) (to : KeyId) (entries : List Entry) → time < until → is_withheld (until - 1) to entries ≡ true → is_withheld time to entries ≡ true
+lasts_before : (until time : ℕ) (to : KeyId) (entries : List ShutOffEntry) → time < until → is_withheld (until - 1) to entries ≡ true → is_withheld time to entries ≡ true
 lasts_before until time to [] early covered = absurd cc
 lasts_before until time to (e ∷ es) early covered = elim (one_of (withholds (until - 1) to e) (is_withheld (until - 1) to es) covered) [
   | inl here ↦
@@ -124,7 +124,7 @@ lasts_before until time to (e ∷ es) early covered = elim (one_of (withholds (u
 ]
 
 -- so an entry until then adds nothing
-adds_nothing : (now until : ℕ) (to : KeyId) (entries : List Entry) → is_withheld (until - 1) to entries ≡ true → SameInForce now (record { to = to; until = until } ∷ entries) entries
+adds_nothing : (now until : ℕ) (to : KeyId) (entries : List ShutOffEntry) → is_withheld (until - 1) to entries ≡ true → SameInForce now (record { to = to; until = until } ∷ entries) entries
 adds_nothing now until to entries covered = λ key time later. by_case key time (withholds time key (record { to = to; until = until })) refl
   where
     by_case : (key : KeyId) (time : ℕ) (b : Bool) → withholds time key (record { to = to; until = until }) ≡ b → (withholds time key (record { to = to; until = until }) || is_withheld time key entries) ≡ is_withheld time key entries
@@ -137,8 +137,8 @@ adds_nothing now until to entries covered = λ key time later. by_case key time 
         ap (λ b. b || is_withheld time key entries) is ∙ sym there
 
 -- after an order a guard stands as what it comes to tells
-module _ (now : ℕ) (name : List ℕ) (to : KeyId) (until : ℕ) (entries : List Entry) (new : GuardState) where
-  abbrev entry : Entry
+module _ (now : ℕ) (name : List ℕ) (to : KeyId) (until : ℕ) (entries : List ShutOffEntry) (new : GuardState) where
+  abbrev entry : ShutOffEntry
   entry = record { to = to; until = until }
 
   abbrev ends : Bool → Option Arming → List Event
@@ -158,13 +158,13 @@ module _ (now : ℕ) (name : List ℕ) (to : KeyId) (until : ℕ) (entries : Lis
       → new.halt ≡ (if told then halt else None) → new.is_down ≡ (if told then false else is_some halt) → SameInForce now (if told then entries else entries_with halt entry entries) new.entries
       → (new.halt ≡ halt_past (ends told halt) name halt) × (new.is_down ≡ down_past (ends told halt) name false) × SameInForce now (told_past (ends told halt) name entries) new.entries
   order_case true halt covered same_halt same_down same =
-      (same_halt, same_down, subst (λ (es : List Entry). SameInForce now es new.entries) (sym obeyed_told) (λ key time later. adds_nothing now until to entries (covered refl) key time later ∙ same key time later))
+      (same_halt, same_down, subst (λ (es : List ShutOffEntry). SameInForce now es new.entries) (sym obeyed_told) (λ key time later. adds_nothing now until to entries (covered refl) key time later ∙ same key time later))
   order_case false None covered same_halt same_down same =
-      (same_halt, same_down, subst (λ (es : List Entry). SameInForce now es new.entries) (sym obeyed_told) same)
+      (same_halt, same_down, subst (λ (es : List ShutOffEntry). SameInForce now es new.entries) (sym obeyed_told) same)
   order_case false (Some arming) covered same_halt same_down same = (
     same_halt ∙ sym (ap (λ b. if b then None else Some arming) (same_name name)),
     same_down ∙ sym (ap (λ b. if b then true else false) (same_name name)),
-    subst (λ (es : List Entry). SameInForce now es new.entries) (sym (halted_told arming)) same,
+    subst (λ (es : List ShutOffEntry). SameInForce now es new.entries) (sym (halted_told arming)) same,
   )
 
 pub order_follows : (now : ℕ) (name : List ℕ) (old new : GuardState) (to : KeyId) (until : ℕ) (obeying : Obeying) (reaction : Reaction) → old.is_down ≡ false → obeying ≡ obeying_of old to until
@@ -226,7 +226,7 @@ heard_follows now old kept after to verdict reaction is up comes goes =
       stop = sym (ap (λ b. if b then None else stop_in old.key) idle.stop);
       halt = on.halt ∙ ap (halt_past (happening ∷ []) name) (sym (ap halt_in is));
       down = ap (λ b. b || after.is_down) parts.0 ∙ on.down ∙ ap (down_past (happening ∷ []) name) (guard_up ∙ sym up);
-      told = subst (λ (es : List Entry). SameInForce now (told_past (happening ∷ []) name es) after.entries) (sym (ap shut_in is)) on.told;
+      told = subst (λ (es : List ShutOffEntry). SameInForce now (told_past (happening ∷ []) name es) after.entries) (sym (ap shut_in is)) on.told;
       untold = λ plain. absurd (let no : true ≡ false = sym (ap is_some is) ∙ plain in cc);
     })
 

@@ -10,7 +10,7 @@ use Rattle.lease_disk.specs.Images.{AtEachMoment}
 use Rattle.lease_disk.specs.Past.{content_of, kept_bytes}
 use Rattle.lease_disk.specs.PastLaws.{content_is_image, now_counts}
 use Rattle.lease_disk.specs.MemDisk.{DiskState, Leads, MayLeave, MayHaveLeft, clock_of, told_of, reserved, restarted, stopped_at}
-use Rattle.shutoff_filter.specs.declared.entries.Entry.{Entry}
+use Rattle.shutoff_filter.specs.declared.entries.ShutOffEntry.{ShutOffEntry}
 use Rattle.shutoff_filter.specs.declared.slots.Slot.{Slot}
 use Rattle.shutoff_filter.specs.Entries.{SameInForce, entries_of, in_force, is_key, others_in_force}
 use Rattle.shutoff_filter.specs.FilterFile.{IsFilterOf, file_size, slot_in}
@@ -45,7 +45,7 @@ ready_serves now room slots disk new served quiet holds place whole ran =
     (subst (λ (d : DiskState). Ran Leads d (closing_calls slots (spare_in now slots)) served new) (sym (placed disk place)) ran)
 
 -- a file stays as long as it was
-pub same_length : (room size : ℕ) (Such : List Entry → Type 0) (disk new : DiskState) → ((image : List ℕ) → MayLeave disk image → length image ≡ size)
+pub same_length : (room size : ℕ) (Such : List ShutOffEntry → Type 0) (disk new : DiskState) → ((image : List ℕ) → MayLeave disk image → length image ≡ size)
     → AtEachMoment clock_of MayHaveLeft disk new (IsImageOf room (MayLeave disk) Such) → length (content_of new.base new.past) ≡ size
 same_length room size Such disk new all moments =
     let now = content_of new.base new.past in
@@ -90,14 +90,14 @@ pub keep_falls : (now room until : ℕ) (to : KeyId) (spare : Option ℕ) (slots
     × IsQuiet (restarted new) × ((restarted new).room ≡ disk.room)
 keep_falls now room until to None slots disk new arming served ready whole nineteen fits halting some same closed ran = absurd (cc)
 keep_falls now room until to (Some number) slots disk new arming served ready whole nineteen fits halting some same closed ran =
-    let entry : Entry = record { to = to; until = until } in
+    let entry : ShutOffEntry = record { to = to; until = until } in
     let file = content_of disk.base disk.past in
     let ends = halted_keep disk new room now number to until slots arming.call arming.byte served ready whole closed.0 nineteen fits (same file refl) closed.1 halting.0 halting.1 ran in
     let left = subst (λ b. HasInForce room (length file) now (if b then entry ∷ entries_of slots else entries_of slots) (restarted new).base) (same_left arming.call arming.byte halting.1) ends.1 in
     (ends.0, left, ends.2, ends.3)
 
 -- then the guard is down, and keeps what the restart leaves
-pub fallen_down : (now room size : ℕ) (entries : List Entry) (disk : DiskState) → IsQuiet (restarted disk) → file_size room ≤ disk.room → size ≡ file_size room
+pub fallen_down : (now room size : ℕ) (entries : List ShutOffEntry) (disk : DiskState) → IsQuiet (restarted disk) → file_size room ≤ disk.room → size ≡ file_size room
     → HasInForce room size now entries (restarted disk).base
     → Keeps (record { room = room; entries = entries_in room (restarted disk).base; halt = None; is_down = true; disk = disk })
 fallen_down now room size entries disk quiet holds long left = record {
@@ -108,7 +108,7 @@ fallen_down now room size entries disk quiet holds long left = record {
 -- ---- the whole
 
 -- what withholds the same still does with one entry more in both, or in neither
-same_with : (now : ℕ) (halt : Option Arming) (entry : Entry) (old new : List Entry) → SameInForce now old new → SameInForce now (entries_with halt entry old) (entries_with halt entry new)
+same_with : (now : ℕ) (halt : Option Arming) (entry : ShutOffEntry) (old new : List ShutOffEntry) → SameInForce now old new → SameInForce now (entries_with halt entry old) (entries_with halt entry new)
 same_with now None entry old new alike = same_with_entry now entry old new alike
 same_with now (Some arming) entry old new alike = by_case (left_entry arming.call arming.byte)
   where
@@ -122,7 +122,7 @@ pub done_written : (now : ℕ) (kept readied after : GuardState) (halt : Option 
     → after.halt ≡ None → after.is_down ≡ is_some halt
     → IsDone now kept to until (written_with halt) after
 done_written now kept readied after halt to until is untold alike same_room wrote none down =
-    let entry : Entry = record { to = to; until = until } in
+    let entry : ShutOffEntry = record { to = to; until = until } in
     let old : entries_after kept to until ≡ entries_with halt entry kept.entries
     = ap (λ b. if b then kept.entries else entries_with kept.halt entry kept.entries) untold ∙ ap (λ h. entries_with h entry kept.entries) is in
     let both = same_with now halt entry kept.entries readied.entries alike in
@@ -130,7 +130,7 @@ done_written now kept readied after halt to until is untold alike same_room wrot
       answer = sym (ap (λ b. if b then Obeyed else written_with kept.halt) untold ∙ ap written_with is);
       halt = none ∙ sym (ap (λ b. if b then kept.halt else None) untold);
       down = down ∙ sym (ap (λ b. if b then false else is_some kept.halt) untold ∙ ap is_some is);
-      entries = subst (λ (es : List Entry). SameInForce now es after.entries) (sym old) (λ key time later. both key time later ∙ wrote.same key time later);
+      entries = subst (λ (es : List ShutOffEntry). SameInForce now es after.entries) (sym old) (λ key time later. both key time later ∙ wrote.same key time later);
       same_room = wrote.same_room ∙ same_room;
       keeps = wrote.keeps;
     }
@@ -142,10 +142,10 @@ entries_left now kept to until (Ok obeying) after done = done.entries
 entries_left now kept to until (Err end) after same = tt
 
 -- the other keys in force are among those in force
-pub others_few : (now : ℕ) (to : KeyId) (entries : List Entry) → others_in_force now to entries ≤ length (in_force now entries)
+pub others_few : (now : ℕ) (to : KeyId) (entries : List ShutOffEntry) → others_in_force now to entries ≤ length (in_force now entries)
 others_few now to entries = among (in_force now entries)
   where
-    among : (es : List Entry) → length (filter (λ e. not (is_key e.to to)) es) ≤ length es
+    among : (es : List ShutOffEntry) → length (filter (λ e. not (is_key e.to to)) es) ≤ length es
     among [] = omega arith
     among (e ∷ es) = by_case (not (is_key e.to to)) (among es)
       where

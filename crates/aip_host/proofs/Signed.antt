@@ -24,13 +24,13 @@ use Rattle.aip_event.specs.declared.input.Target.{Target}
 use Rattle.verify_packet.specs.Challenge.{asked_in}
 use Rattle.verify_packet.specs.Response.{response_text_of}
 use Rattle.shutoff_filter.specs.Body.{shutoff_text_of}
-use Rattle.shutoff_filter.specs.declared.entries.Entry.{Entry as Told}
+use Rattle.shutoff_filter.specs.declared.entries.ShutOffEntry.{ShutOffEntry as Told}
 use Rattle.shutoff_filter.specs.Entries.{is_withheld}
 use Rattle.sent_log.specs.Log.{Log}
 use Rattle.aip_rules.specs.declared.Arming.{Arming}
 use Rattle.aip_rules.specs.declared.Reaction.{Reaction}
 use Rattle.aip_rules.specs.declared.Seat.{Seat}
-use Rattle.aip_rules.specs.Nodes.{is_same_address}
+use Rattle.aip_addr.specs.Ids.{is_same_address}
 use Rattle.aip_rules.specs.Reaction.{behind, dropped, happens_and_puts, puts}
 use Rattle.aip_rules.specs.Standing.{Standing, noted_in}
 use Rattle.aip_rules.specs.Host as rules

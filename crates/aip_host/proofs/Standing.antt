@@ -21,7 +21,7 @@ use Rattle.aip_rules.specs.State.{now_of, flight_count}
 use Rattle.aip_rules.specs.Step.{has_key, after_step}
 use Rattle.aip_host.specs.HostState.{HostState, key_in, standing_of}
 use Rattle.aip_host.specs.After.{Follows, IsNew, IsRestarted, halted_in, stopped_in}
-use Rattle.aip_host.specs.StandsFor.{StandsFor, DisksServe}
+use Rattle.aip_host.specs.StandsFor.{HostStandsFor, DisksServe}
 use Rattle.aip_host.specs.StandsOn.{StandsOn, LetsAct, ArmsStop, ArmsHalt, StartsAnew, IsSeated}
 use Rattle.aip_host.proofs.Signed.{same_name}
 use Rattle.aip_host.proofs.Obeys.{if_ok, if_both}
@@ -32,7 +32,7 @@ use Rattle.aip_host.proofs.Inputs.{stops, halts, restarts}
 
 -- what the rules say of what is kept is what they say on each trace for which that stands
 abbrev IsSame : HostState → (Standing → Reaction) → Type 0
-IsSame old rule = (topo : Topology) (tr : List Entry) (at : Seat) → StandsFor topo tr at old → rule (standing_of old (now_of tr)) ≡ rule (standing topo tr at)
+IsSame old rule = (topo : Topology) (tr : List Entry) (at : Seat) → HostStandsFor topo tr at old → rule (standing_of old (now_of tr)) ≡ rule (standing topo tr at)
 
 acts : (now : ℕ) (old new : HostState) (rule : Standing → Reaction) (reaction : Reaction)
     → IsSame old rule → reaction ≡ rule (standing_of old now) → Follows now old reaction new → DisksServe new → StandsOn now old LetsAct rule reaction new
@@ -76,8 +76,8 @@ module _ {E : Type 0} (result : Result Reaction E) (now : ℕ) (old new : HostSt
       record {
         ruled = says;
         stands = λ input asked.
-            subst (λ (i : Input). StandsFor topo (after_step tr i (events_on tr reaction)) at new) (sym asked)
-            (subst (λ (r : Reaction). StandsFor topo (after_step tr (Restart at.name) (events_on tr r)) at new) (sym says)
+            subst (λ (i : Input). HostStandsFor topo (after_step tr i (events_on tr reaction)) at new) (sym asked)
+            (subst (λ (r : Reaction). HostStandsFor topo (after_step tr (Restart at.name) (events_on tr r)) at new) (sym says)
             (restarts topo tr at old new at.name (flight_count tr) stands (same_name at.name) anew disks));
       }
 
@@ -93,8 +93,8 @@ pub stops_on : (old new : HostState) (call byte : ℕ) → has_key (key_in old.k
 stops_on old new call byte some is disks now topo tr at time stands = record {
   ruled = refl;
   stands = λ input asked.
-      subst (λ (i : Input). StandsFor topo (after_step tr i []) at new) (sym asked)
-      (subst (λ (h : HostState). StandsFor topo (after_step tr (Stop at.name call byte) []) at h) (sym is)
+      subst (λ (i : Input). HostStandsFor topo (after_step tr i []) at new) (sym asked)
+      (subst (λ (h : HostState). HostStandsFor topo (after_step tr (Stop at.name call byte) []) at h) (sym is)
       (stops topo tr at old at.name call byte stands (same_name at.name) some (subst DisksServe is disks)));
 }
 
@@ -104,15 +104,15 @@ pub halts_on : (old new : HostState) (call byte : ℕ) → new ≡ record old { 
 halts_on old new call byte is disks now topo tr at time stands = record {
   ruled = refl;
   stands = λ input asked.
-      subst (λ (i : Input). StandsFor topo (after_step tr i []) at new) (sym asked)
-      (subst (λ (h : HostState). StandsFor topo (after_step tr (Halt at.name call byte) []) at h) (sym is)
+      subst (λ (i : Input). HostStandsFor topo (after_step tr i []) at new) (sym asked)
+      (subst (λ (h : HostState). HostStandsFor topo (after_step tr (Halt at.name call byte) []) at h) (sym is)
       (halts topo tr at old at.name call byte stands (same_name at.name) (subst DisksServe is disks)));
 }
 
 -- ---- at first
 
 module _ (seat : Seat) (towards : Target) (settings : Settings) (key : Option Key) (guard : Bool) where
-  begun : (topo : Topology) (host : HostState) → IsSeated topo seat towards settings key guard → IsNew seat towards settings key guard host → DisksServe host → StandsFor topo [] seat host
+  begun : (topo : Topology) (host : HostState) → IsSeated topo seat towards settings key guard → IsNew seat towards settings key guard host → DisksServe host → HostStandsFor topo [] seat host
   begun topo host seated new disks =
       starts topo seat host
       (record {
@@ -132,5 +132,5 @@ module _ (seat : Seat) (towards : Target) (settings : Settings) (key : Option Ke
 
   -- a new host stands for the trace of no inputs, in each topology that has it
   pub begins_on : {E : Type 0} (result : Result HostState E) → IfOk result (λ host. IsNew seat towards settings key guard host) → IfOk result (λ host. DisksServe host)
-      → IfOk result (λ host. (topo : Topology) → IsSeated topo seat towards settings key guard → StandsFor topo [] seat host)
+      → IfOk result (λ host. (topo : Topology) → IsSeated topo seat towards settings key guard → HostStandsFor topo [] seat host)
   begins_on result new disks = if_both result _ _ _ new disks (λ host fresh serve topo seated. begun topo host seated fresh serve)

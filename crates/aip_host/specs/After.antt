@@ -8,7 +8,7 @@ use Rattle.aip_topo.specs.declared.topology.Settings.{Settings}
 use Rattle.lms_core.specs.Tree.{Key}
 use Rattle.sent_log.specs.Log.{Log, empty_log, with_frame}
 use Rattle.sent_log.specs.declared.log.Noted.{Noted}
-use Rattle.shutoff_filter.specs.declared.entries.Entry.{Entry as ShutOff}
+use Rattle.shutoff_filter.specs.declared.entries.ShutOffEntry.{ShutOffEntry as ShutOff}
 use Rattle.shutoff_filter.specs.Entries.{SameInForce}
 use Rattle.aip_rules.specs.declared.Arming.{Arming}
 use Rattle.aip_rules.specs.declared.Flight.{Flight}

@@ -3,7 +3,7 @@ use Rattle.std.specs.Prelude.{◌≡◌, ℕ, ◌+◌, ◌≤◌, true, false, L
 use Rattle.aip_addr.specs.declared.ids.KeyId.{KeyId}
 use Rattle.lease_disk.specs.Past.{content_of, kept_bytes}
 use Rattle.lease_disk.specs.MemDisk.{DiskState, new_disk, restarted}
-use Rattle.shutoff_filter.specs.declared.entries.Entry.{Entry}
+use Rattle.shutoff_filter.specs.declared.entries.ShutOffEntry.{ShutOffEntry}
 use Rattle.shutoff_filter.specs.Entries.{SameInForce, entries_of}
 use Rattle.shutoff_filter.specs.FilterFile.{file_size}
 use Rattle.shutoff_filter.specs.Keeping.{entries_in}
@@ -30,7 +30,7 @@ IsHeld (Some state) = Keeps (guard_in state)
 IsHeld None = ⊥
 
 -- the disk serves, nothing on it is pending, and it holds a file of these entries
-pub record IsAtRest (room : ℕ) (entries : List Entry) (disk : DiskState) : Type 0 where
+pub record IsAtRest (room : ℕ) (entries : List ShutOffEntry) (disk : DiskState) : Type 0 where
   pub holds : file_size room ≤ disk.room
   pub quiet : IsQuiet disk
   pub file : IsFileOf room entries (content_of disk.base disk.past)
@@ -57,7 +57,7 @@ pub record IsReadied (now : ℕ) (kept : GuardState) (spare : Option ℕ) (after
   pub same_room : after.room ≡ kept.room
 
 -- an entry was written, or its writing was cut off: the guard keeps what withholds as these entries do from now on
-pub record IsWritten (now : ℕ) (kept : GuardState) (entries : List Entry) (after : GuardState) : Type 0 where
+pub record IsWritten (now : ℕ) (kept : GuardState) (entries : List ShutOffEntry) (after : GuardState) : Type 0 where
   pub same : SameInForce now entries after.entries
   pub same_room : after.room ≡ kept.room
   pub keeps : Keeps after

@@ -2,7 +2,7 @@
 use Rattle.std.specs.Prelude.{◌≡◌, ℕ, ◌-◌, ◌≤◌, Bool, true, false, if◌then◌else◌, List, ◌∷◌, length, Option, Some, None, is_some}
 use Rattle.aip_addr.specs.declared.ids.KeyId.{KeyId}
 use Rattle.lease_disk.specs.MemDisk.{DiskState, MayLeave, restarted}
-use Rattle.shutoff_filter.specs.declared.entries.Entry.{Entry}
+use Rattle.shutoff_filter.specs.declared.entries.ShutOffEntry.{ShutOffEntry}
 use Rattle.shutoff_filter.specs.Entries.{is_withheld}
 use Rattle.shutoff_filter.specs.FilterFile.{IsFilter, file_size}
 use Rattle.shutoff_filter.specs.Keeping.{entries_in}
@@ -17,7 +17,7 @@ pub record GuardState : Type 0 where
   -- for how many key identifiers it has room
   pub room : ℕ
   -- the entries by which it withholds; while it is down, those that its restart gives
-  pub entries : List Entry
+  pub entries : List ShutOffEntry
   -- the halt that is armed, none while the guard is down
   pub halt : Option Arming
   -- whether a halt fell since the last restart
@@ -26,7 +26,7 @@ pub record GuardState : Type 0 where
   pub disk : DiskState
 
 -- the bytes are a filter file of this room, whole, with an open gate and no byte more, and its entries are these
-pub record IsFileOf (room : ℕ) (entries : List Entry) (file : List ℕ) : Type 0 where
+pub record IsFileOf (room : ℕ) (entries : List ShutOffEntry) (file : List ℕ) : Type 0 where
   pub filter : IsFilter room file
   pub long : length file ≡ file_size room
   pub same : entries_in room file ≡ entries
@@ -69,7 +69,7 @@ written_with None = Obeyed
 written_with (Some arming) = Halted arming.call arming.byte
 
 -- the entries once an order was written: it is one more, unless a halt fell that leaves none
-abbrev pub entries_with : Option Arming → Entry → List Entry → List Entry
+abbrev pub entries_with : Option Arming → ShutOffEntry → List ShutOffEntry → List ShutOffEntry
 entries_with None entry entries = entry ∷ entries
 entries_with (Some arming) entry entries = if left_entry arming.call arming.byte then entry ∷ entries else entries
 
@@ -87,7 +87,7 @@ abbrev pub down_after : GuardState → KeyId → ℕ → Bool
 down_after kept to until = if is_told kept to until then false else is_some kept.halt
 
 -- the entries after an order
-abbrev pub entries_after : GuardState → KeyId → ℕ → List Entry
+abbrev pub entries_after : GuardState → KeyId → ℕ → List ShutOffEntry
 entries_after kept to until =
     if is_told kept to until then kept.entries else entries_with kept.halt (record { to = to; until = until }) kept.entries
 

@@ -2,7 +2,7 @@
 use Rattle.std.specs.Prelude.{ℕ, Bool, false, ◌||◌, List, [], Option, Some, None, is_some}
 use Rattle.lms_core.specs.Tree.{Key}
 use Rattle.sent_log.specs.Log.{Log}
-use Rattle.shutoff_filter.specs.declared.entries.Entry.{Entry as ShutOff}
+use Rattle.shutoff_filter.specs.declared.entries.ShutOffEntry.{ShutOffEntry as ShutOff}
 use Rattle.shutoff_filter.specs.Entries.{in_force}
 use Rattle.aip_event.specs.declared.input.Target.{Target}
 use Rattle.aip_rules.specs.declared.Arming.{Arming}

@@ -33,7 +33,7 @@ pub record DisksServe (kept : HostState) : Type 0 where
 -- is down are those of the trace, and so are the stop and the halt while it is up. A guard is there exactly where the topology
 -- has one, and withholds by what the trace told the host, now and at each later time; a plain host is told nothing. Its leaves
 -- are spent and what it was told is kept on its disks.
-pub record StandsFor (topo : Topology) (tr : List Entry) (at : Seat) (kept : HostState) : Type 0 where
+pub record HostStandsFor (topo : Topology) (tr : List Entry) (at : Seat) (kept : HostState) : Type 0 where
   pub seat : kept.seat ≡ at
   pub towards : kept.towards ≡ target.Port (name_at topo.routers at.router) at.port
   pub room : kept.room ≡ topo.settings.filter

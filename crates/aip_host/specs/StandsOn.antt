@@ -16,7 +16,7 @@ use Rattle.aip_rules.specs.Standing.{Standing, standing, lets_act}
 use Rattle.aip_rules.specs.State.{now_of}
 use Rattle.aip_rules.specs.Step.{after_step}
 use Rattle.aip_host.specs.HostState.{HostState}
-use Rattle.aip_host.specs.StandsFor.{StandsFor}
+use Rattle.aip_host.specs.StandsFor.{HostStandsFor}
 
 -- ---- the inputs by which something is asked of the host of a name
 
@@ -43,12 +43,12 @@ StartsAnew tr name input = input ≡ Restart name
 pub record IsRuled (topo : Topology) (tr : List Entry) (at : Seat) (asks : List Entry → List ℕ → Input → Type 0)
     (rule : Standing → Reaction) (reaction : Reaction) (new : HostState) : Type 0 where
   pub ruled : reaction ≡ rule (standing topo tr at)
-  pub stands : (input : Input) → asks tr at.name input → StandsFor topo (after_step tr input (events_on tr reaction)) at new
+  pub stands : (input : Input) → asks tr at.name input → HostStandsFor topo (after_step tr input (events_on tr reaction)) at new
 
 -- the host does what the rules say and stands on: so it is for every trace of this time for which it stood
 abbrev pub StandsOn : ℕ → HostState → (List Entry → List ℕ → Input → Type 0) → (Standing → Reaction) → Reaction → HostState → Type 0
 StandsOn now old asks rule reaction new =
-    (topo : Topology) (tr : List Entry) (at : Seat) → now_of tr ≡ now → StandsFor topo tr at old → IsRuled topo tr at asks rule reaction new
+    (topo : Topology) (tr : List Entry) (at : Seat) → now_of tr ≡ now → HostStandsFor topo tr at old → IsRuled topo tr at asks rule reaction new
 
 -- ---- at first
 

@@ -8,12 +8,12 @@ ghost use Rattle.aip_host.specs.Ended.{ended, response_frame};
 
 use crate::framing::{framed, signed, stopped};
 use crate::signing::{Signing, SigningKey};
-use aip_addr::{Address, Bytes, Memory};
+use aip_addr::{Address, Bytes};
 use aip_event::{Reason, Target};
 use aip_frame::{Frame, Kind};
 use aip_rules::{Reaction, Seat};
 use lms_core::PublicKey;
-use std::alloc::Global;
+use std::alloc::{AllocError, Global};
 use verify_packet::{asked_router, response_body, response_text};
 
 /// The body of a challenge.
@@ -32,7 +32,7 @@ fn short_response(
     challenge: &[u8; 154],
     key: &PublicKey,
     signature: &[u8],
-) -> Result<Bytes, Memory>
+) -> Result<Bytes, AllocError>
     requires { length signature.now ≤ 8844 }
     ensures body { IfOk result (λ body. body ≡ response_of challenge.now key.now signature.now) }
     ensures size { IfOk result (λ body. length body ≤ most_body) }
@@ -48,7 +48,7 @@ fn response(
     challenge: &Frame,
     key: &PublicKey,
     signature: &[u8],
-) -> Result<Bytes, Memory>
+) -> Result<Bytes, AllocError>
     requires challenge { length challenge.now.body ≡ 154 }
     requires short { length signature.now ≤ 8844 }
     ensures { IfOk result (λ bytes. bytes ≡ frame_bytes (response_frame from challenge.now key.now signature.now)) }
@@ -73,7 +73,7 @@ fn responded(
     challenge: &Frame,
     key: &PublicKey,
     signing: Signing,
-) -> Result<Reaction, Memory>
+) -> Result<Reaction, AllocError>
     requires challenge { length challenge.now.body ≡ 154 }
     requires short { IsShort signing }
     ensures { IfOk result (λ reaction. reaction
@@ -96,7 +96,7 @@ pub fn answer(
     seat: &Seat,
     towards: Target,
     challenge: &Frame,
-) -> Result<Reaction, Memory>
+) -> Result<Reaction, AllocError>
     requires up { key.old.is_down ≡ false }
     requires challenge { length challenge.now.body ≡ 154 }
     ensures reaction { IfOk result (λ reaction. reaction ≡ ended seat.now towards

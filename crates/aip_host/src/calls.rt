@@ -10,16 +10,16 @@ ghost use Rattle.aip_rules.specs.Reaction.{nothing};
 ghost use Rattle.aip_host.specs.HostState.{key_in, standing_of};
 ghost use Rattle.aip_host.specs.Withholding.{LeavesUnordered};
 ghost use Rattle.aip_host.specs.After.{Follows, IsNew, IsRestarted, halted_in, stopped_in};
-ghost use Rattle.aip_host.specs.StandsFor.{DisksServe, StandsFor};
+ghost use Rattle.aip_host.specs.StandsFor.{DisksServe, HostStandsFor};
 ghost use Rattle.aip_host.specs.StandsOn.{ArmsHalt, ArmsStop, IsSeated, LetsAct, StandsOn, StartsAnew};
 
 use crate::host::Host;
-use aip_addr::{Address, Memory};
+use aip_addr::Address;
 use aip_event::Target;
 use aip_rules::{Reaction, Seat};
 use aip_topo::Settings;
 use lms_core::Tree;
-use std::alloc::Global;
+use std::alloc::{AllocError, Global};
 
 impl Host {
     ghost use Rattle.aip_rules.specs.Step.{has_key};
@@ -33,14 +33,14 @@ impl Host {
         settings: &Settings,
         key: Option<Tree>,
         guarded: bool,
-    ) -> Result<Host, Memory>
+    ) -> Result<Host, AllocError>
         requires log { 1 ≤ settings.now.log }
         requires some { 1 ≤ settings.now.filter }
         requires few { settings.now.filter ≤ 256 }
         ensures new { IfOk result (λ host. IsNew seat towards settings.now key guarded host) }
         // In each topology that has it, it stands for the trace of no inputs.
         ensures stands { IfOk result (λ host. (topo : Topology)
-            → IsSeated topo seat towards settings.now key guarded → StandsFor topo [] seat host) }
+            → IsSeated topo seat towards settings.now key guarded → HostStandsFor topo [] seat host) }
         ensures disks { IfOk result (λ host. DisksServe host) }
     {
         Host::begin(alloc, seat, towards, settings, key, guarded)
@@ -55,7 +55,7 @@ impl Host {
         to: Address,
         packet: u32,
         body: &[u8],
-    ) -> Result<Reaction, Memory>
+    ) -> Result<Reaction, AllocError>
         requires soon { now < 2 ^ 48 }
         requires body { length body.now ≤ most_body }
         ensures reaction { IfOk result (λ reaction. reaction
@@ -75,7 +75,7 @@ impl Host {
 
     /// Puts bytes as they are. While the host is down they are dropped. The only error is want of memory: then nothing
     /// changes.
-    pub fn raw(&mut self, alloc: Global, now: u64, bytes: &[u8]) -> Result<Reaction, Memory>
+    pub fn raw(&mut self, alloc: Global, now: u64, bytes: &[u8]) -> Result<Reaction, AllocError>
         requires soon { now < 2 ^ 48 }
         ensures reaction { IfOk result (λ reaction. reaction ≡ put_by (standing_of self.old now) bytes.now) }
         ensures follows { IfOk result (λ reaction. Follows now self.old reaction self.new) }
@@ -93,7 +93,7 @@ impl Host {
 
     /// What the host does where bytes arrive. The only error is want of memory: then a leaf may be spent, and the run
     /// can't go on.
-    pub fn arrive(&mut self, alloc: Global, now: u64, bytes: &[u8]) -> Result<Reaction, Memory>
+    pub fn arrive(&mut self, alloc: Global, now: u64, bytes: &[u8]) -> Result<Reaction, AllocError>
         requires soon { now < 2 ^ 48 }
         ensures reaction { IfOk result (λ reaction. reaction ≡ at_host (standing_of self.old now) bytes.now) }
         ensures follows { IfOk result (λ reaction. Follows now self.old reaction self.new) }
@@ -115,7 +115,7 @@ impl Host {
         now: u64,
         named: &[u8],
         ttl: u32,
-    ) -> Result<Reaction, Memory>
+    ) -> Result<Reaction, AllocError>
         requires soon { now < 2 ^ 48 }
         requires key { has_key (key_in self.old.key) ≡ true }
         requires frame { IsSome (frame_of named.now) }
@@ -162,7 +162,7 @@ impl Host {
 
     /// Starts the host anew: its log is empty, and its disks are restarted. A guarded host then tells what is in force. The
     /// only error is want of memory: the host is up then too.
-    pub fn restart(&mut self, alloc: Global, now: u64) -> Result<Reaction, Memory>
+    pub fn restart(&mut self, alloc: Global, now: u64) -> Result<Reaction, AllocError>
         requires soon { now < 2 ^ 48 }
         ensures reaction { IfOk result (λ reaction. reaction ≡ back_up (standing_of self.old now)) }
         ensures restarted { IsRestarted self.old self.new }

@@ -4,11 +4,11 @@ ghost use Rattle.aip_frame.specs.Frame.{frame_bytes, most_body};
 ghost use Rattle.aip_rules.specs.Host.{sent_frame};
 ghost use Rattle.aip_rules.specs.Reaction.{happens, happens_and_puts};
 
-use aip_addr::{Address, Bytes, Memory, Name};
+use aip_addr::{Address, Bytes, Name};
 use aip_event::{Event, Target};
 use aip_frame::{Frame, Kind, encode};
 use aip_rules::Reaction;
-use std::alloc::Global;
+use std::alloc::{AllocError, Global};
 
 /// The bytes of a frame with hop limit 64 that is no challenge. The only error is want of memory.
 pub fn framed(
@@ -18,7 +18,7 @@ pub fn framed(
     to: Address,
     from: Address,
     body: Bytes,
-) -> Result<Bytes, Memory>
+) -> Result<Bytes, AllocError>
     requires size { length body ≤ most_body }
     requires kind { kind ≢ Kind.Challenge }
     ensures { IfOk result (λ bytes. bytes ≡ frame_bytes (record {
@@ -48,7 +48,7 @@ pub fn data_frame(
     from: Address,
     packet: u32,
     body: &[u8],
-) -> Result<Bytes, Memory>
+) -> Result<Bytes, AllocError>
     requires { length body.now ≤ most_body }
     ensures { IfOk result (λ bytes. bytes ≡ frame_bytes (sent_frame to from packet body.now)) }
 {
@@ -56,8 +56,27 @@ pub fn data_frame(
     framed(alloc, Kind::Data, packet, to, from, body)
 }
 
+/// A packet of data is received. The only error is want of memory.
+pub fn received(alloc: Global, host: Name, packet: u32) -> Result<Reaction, AllocError>
+    ensures { IfOk result (λ reaction. reaction ≡ happens (Event.Got host packet)) }
+{
+    Reaction::happens(
+        alloc,
+        Event::Got {
+            host,
+            packet: packet.into(),
+        },
+    )
+}
+
 /// A signing was stopped. The only error is want of memory.
-pub fn stopped(alloc: Global, host: Name, leaf: u32, call: u8, byte: u8) -> Result<Reaction, Memory>
+pub fn stopped(
+    alloc: Global,
+    host: Name,
+    leaf: u32,
+    call: u8,
+    byte: u8,
+) -> Result<Reaction, AllocError>
     ensures { IfOk result (λ reaction. reaction ≡ happens (Event.Stopped host leaf call byte)) }
 {
     Reaction::happens(
@@ -78,7 +97,7 @@ pub fn signed(
     towards: Target,
     leaf: u32,
     bytes: Bytes,
-) -> Result<Reaction, Memory>
+) -> Result<Reaction, AllocError>
     ensures { IfOk result (λ reaction. reaction ≡ happens_and_puts (Event.Signed host leaf) towards bytes) }
 {
     let event = Event::Signed {

@@ -3,7 +3,7 @@ ghost use Rattle.std.specs.Prelude.{◌≡◌, ◌+◌, ◌<◌, ◌≤◌, ◌^
 ghost use Rattle.aip_addr.specs.declared.ids.KeyId.{KeyId as ToKey};
 ghost use Rattle.aip_frame.specs.Frame.{frame_of};
 ghost use Rattle.aip_frame.specs.declared.frame.Kind.TheVariants as kind;
-ghost use Rattle.shutoff_filter.specs.declared.entries.Entry.{Entry as Told};
+ghost use Rattle.shutoff_filter.specs.declared.entries.ShutOffEntry.{ShutOffEntry as Told};
 ghost use Rattle.shutoff_filter.specs.Body.{order_in};
 ghost use Rattle.shutoff_filter.specs.Entries.{SameInForce, in_force, is_withheld, others_in_force, entries_of};
 ghost use Rattle.shutoff_filter.specs.Judged.{is_full, is_in_log, shutoff_verdict};
@@ -12,11 +12,14 @@ ghost use Rattle.aip_host.specs.declared.guard.State.TheVariants.{Ready, Fallen}
 ghost use Rattle.aip_host.specs.Guarding.{Keeps, IsHalting, entries_with, is_told, with_halt};
 ghost use Rattle.aip_host.specs.Guarded.{guard_in, HasPlace, IsAtRest, IsDone, IsObeying, IsReadied, IsWoken, IsWritten};
 
-use aip_addr::{KeyId, Memory};
+use aip_addr::KeyId;
 use aip_rules::Arming;
 use lease_disk::MemDisk;
 use sent_log::SentLog;
-use shutoff_filter::{Entry, FilterStore, Heard, KeepEnd, Slots, format_store};
+use shutoff_filter::{
+    FilterStore, Heard, KEEP_BYTES, KEEP_CALLS, KeepEnd, ShutOffEntry, Slots, file_size,
+    format_store,
+};
 use std::alloc::{AllocError, Global};
 use std::marker::Model;
 
@@ -33,11 +36,6 @@ pub enum Obeying {
         byte: u8,
     },
 }
-
-// How many bytes a filter file has before its slots, and for each slot.
-const HEAD: usize = 3;
-
-const SLOT: usize = 28;
 
 // A filter that is open, with the halt that is armed, or one whose disk stopped.
 #[derive(Drop)]
@@ -77,8 +75,7 @@ fn fresh_disk(alloc: Global, room: u16) -> Result<MemDisk, AllocError>
     requires few { room ≤ 256 }
     ensures rest { IfOk result (λ disk. IsAtRest room [] disk) }
 {
-    let size = HEAD + SLOT * (room as usize + 1);
-    let disk = MemDisk::new(alloc, size, Vec::new(alloc))?;
+    let disk = MemDisk::new(alloc, file_size(room), Vec::new(alloc))?;
     match format_store(disk, room) {
         Ok(disk) => Ok(disk),
         Err(_) => unreachable!(),
@@ -223,7 +220,7 @@ fn told(
     to: &KeyId,
     until: u64,
     now: u64,
-) -> (State, Result<Obeying, Memory>)
+) -> (State, Result<Obeying, AllocError>)
     requires soon { now < 2 ^ 48 }
     requires later { now < until }
     requires keeps { Keeps (guard_in (Ready store halt)) }
@@ -235,7 +232,7 @@ fn told(
         return (State::Ready { store, halt }, Ok(Obeying::Obeyed));
     }
     let mut store = store;
-    match store.reserve(6, 29) {
+    match store.reserve(KEEP_CALLS, KEEP_BYTES) {
         Ok(()) => {
             let (state, obeying) = written(store, halt, to, until, now);
             (state, Ok(obeying))
@@ -265,7 +262,7 @@ impl Guard {
 
     /// A guard with room for so many key identifiers, 1 to 256, that was told nothing. It makes a disk, formats and opens it.
     /// The only error is want of memory.
-    pub fn new(alloc: Global, room: u16) -> Result<Guard, Memory>
+    pub fn new(alloc: Global, room: u16) -> Result<Guard, AllocError>
         requires some { 1 ≤ room }
         requires few { room ≤ 256 }
         ensures room { IfOk result (λ guard. guard.room ≡ room) }
@@ -321,7 +318,7 @@ impl Guard {
     /// Obeys an order to withhold a key identifier until a tick. Where an entry of it lasts at least as long nothing changes.
     /// Else it is written; but where a halt is armed, it falls, and the guard is down: then the entry is left exactly where
     /// the halt falls at call 3 or 4 with byte 165. The only error is want of memory: then nothing changes.
-    pub fn obey(&mut self, to: &KeyId, until: u64, now: u64) -> Result<Obeying, Memory>
+    pub fn obey(&mut self, to: &KeyId, until: u64, now: u64) -> Result<Obeying, AllocError>
         requires up { self.old.is_down ≡ false }
         requires soon { now < 2 ^ 48 }
         requires later { now < until }
@@ -376,7 +373,7 @@ impl Guard {
 
     /// The key identifiers in force at a tick, in ascending order of their bytes, each with its greatest until. The only error
     /// is want of memory.
-    pub fn kept(&self, alloc: Global, now: u64) -> Result<Vec<Entry>, Memory>
+    pub fn kept(&self, alloc: Global, now: u64) -> Result<Vec<ShutOffEntry>, AllocError>
         requires up { self.now.is_down ≡ false }
         requires soon { now < 2 ^ 48 }
         ensures { IfOk result (λ kept. kept.items ≡ in_force now self.now.entries) }

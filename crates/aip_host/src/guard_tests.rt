@@ -3,19 +3,19 @@ ghost use Rattle.std.specs.Prelude.{◌≡◌, ◌<◌, ◌≤◌, ◌^◌};
 
 use crate::{Guard, Obeying};
 use aip_addr::KeyId;
-use shutoff_filter::Entry;
+use shutoff_filter::ShutOffEntry;
 use std::alloc::{AllocError, Global};
 use std::test::Fail;
 
-fn entry(of: u8, until: u64) -> Entry {
-    Entry {
+fn entry(of: u8, until: u64) -> ShutOffEntry {
+    ShutOffEntry {
         to: KeyId { bytes: [of; 19] },
         until,
     }
 }
 
 // What a guard that is up keeps.
-fn kept(alloc: Global, guard: &Guard, now: u64) -> Result<Vec<Entry>, AllocError>
+fn kept(alloc: Global, guard: &Guard, now: u64) -> Result<Vec<ShutOffEntry>, AllocError>
     requires soon { now < 2 ^ 48 }
 {
     if guard.is_down() {
@@ -30,7 +30,7 @@ fn obeyed(
     alloc: Global,
     guard: &mut Guard,
     room: u16,
-    order: &Entry,
+    order: &ShutOffEntry,
     now: u64,
 ) -> Result<Option<Obeying>, AllocError>
     requires soon { now < 2 ^ 48 }
@@ -67,7 +67,7 @@ fn a_guard_of_one_takes_another_once_the_first_lapsed(rt: HostRuntime) -> Result
 }
 
 // What a guard of two keeps once it is restarted: it obeys a first order, and a halt falls while it writes a second.
-fn kept_past(alloc: Global, call: u8, byte: u8) -> Result<Vec<Entry>, Fail>
+fn kept_past(alloc: Global, call: u8, byte: u8) -> Result<Vec<ShutOffEntry>, Fail>
     requires first { 1 ≤ call }
     requires last { call ≤ 4 }
 {

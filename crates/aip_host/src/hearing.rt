@@ -12,13 +12,13 @@ ghost use Rattle.aip_host.specs.Guarding.{Keeps, obeying_of};
 ghost use Rattle.aip_host.specs.Withholding.{GuardFollows, LeavesUnordered, order_event, verdict_event, verdict_of};
 
 use crate::guard::{Guard, Obeying};
-use aip_addr::{KeyId, Memory, Name};
+use aip_addr::{KeyId, Name};
 use aip_event::{Event, Events};
 use aip_frame::from_of;
 use aip_rules::Reaction;
 use sent_log::SentLog;
-use shutoff_filter::{Entry, Heard};
-use std::alloc::Global;
+use shutoff_filter::{Heard, ShutOffEntry};
+use std::alloc::{AllocError, Global};
 
 // What an order comes to that ends so.
 fn order_event(host: Name, sender: KeyId, until: u64, obeying: Obeying) -> Event
@@ -48,7 +48,7 @@ fn obey(
     sender: KeyId,
     until: u64,
     now: u64,
-) -> Result<Reaction, Memory>
+) -> Result<Reaction, AllocError>
     requires up { guard.old.is_down ≡ false }
     requires soon { now < 2 ^ 48 }
     requires later { now < until }
@@ -73,7 +73,7 @@ pub fn hear(
     log: &SentLog,
     now: u64,
     frame: &[u8],
-) -> Result<Reaction, Memory>
+) -> Result<Reaction, AllocError>
     requires up { guard.old.is_down ≡ false }
     requires soon { now < 2 ^ 48 }
     requires frame { IsSome (frame_of frame.now) }
@@ -99,7 +99,7 @@ pub fn hear(
 }
 
 // That a host keeps this entry.
-fn kept_event(host: Name, entry: &Entry) -> Event
+fn kept_event(host: Name, entry: &ShutOffEntry) -> Event
     ensures { result ≡ event.Kept host entry.now.to entry.now.until }
 {
     Event::Kept {
@@ -110,7 +110,7 @@ fn kept_event(host: Name, entry: &Entry) -> Event
 }
 
 // The events by which a host tells these entries.
-fn kept_events(alloc: Global, host: Name, entries: &[Entry]) -> Result<Events, Memory>
+fn kept_events(alloc: Global, host: Name, entries: &[ShutOffEntry]) -> Result<Events, AllocError>
     ensures { IfOk result (λ events. events ≡ kept_events host entries.now) }
 {
     let mut events = Events::new(alloc);
@@ -121,7 +121,7 @@ fn kept_events(alloc: Global, host: Name, entries: &[Entry]) -> Result<Events, M
 }
 
 /// What a host says whose guard is up again: the key identifiers in force. The only error is want of memory.
-pub fn kept(alloc: Global, host: Name, guard: &Guard, now: u64) -> Result<Reaction, Memory>
+pub fn kept(alloc: Global, host: Name, guard: &Guard, now: u64) -> Result<Reaction, AllocError>
     requires up { guard.now.is_down ≡ false }
     requires soon { now < 2 ^ 48 }
     ensures { IfOk result (λ reaction. reaction ≡ record { events = kept_events host (in_force now guard.now.entries); put = None }) }

@@ -6,7 +6,6 @@ ghost use Rattle.aip_frame.specs.Frame.{frame_bytes, frame_of, most_body};
 ghost use Rattle.sent_log.specs.Log.{empty_log};
 ghost use Rattle.verify_packet.specs.Challenge.{asked_in};
 ghost use Rattle.aip_rules.specs.Host.{answered, at_host, back_up, challenged, handed_down, kind_at_host, put_by, sent_frame, shut_by, taken_at_host};
-ghost use Rattle.aip_rules.specs.Reaction.{happens};
 ghost use Rattle.aip_host.specs.StandsFor.{DisksServe};
 ghost use Rattle.aip_host.specs.HostState.{down_of, key_in, standing_of};
 ghost use Rattle.aip_host.specs.Withholding.{LeavesUnordered};
@@ -14,21 +13,21 @@ ghost use Rattle.aip_host.specs.After.{Follows, IsNew, IsRestarted, halted_in, s
 
 use crate::answering::{answer, challenge_in};
 use crate::falls::{is_halted, is_stopped};
-use crate::framing::data_frame;
+use crate::framing::{data_frame, received};
 use crate::guard::Guard;
 use crate::hearing::{hear, kept};
 use crate::logging::note_put;
 use crate::signing::SigningKey;
 use crate::silencing::{Demand, silence};
 use crate::withholding::held_back;
-use aip_addr::{Address, Bytes, Memory};
-use aip_event::{Event, Reason, Target};
+use aip_addr::{Address, Bytes};
+use aip_event::{Reason, Target};
 use aip_frame::{Frame, Kind, from_of, packet_hash, parse};
 use aip_rules::{Reaction, Seat};
 use aip_topo::Settings;
 use lms_core::Tree;
 use sent_log::SentLog;
-use std::alloc::Global;
+use std::alloc::{AllocError, Global};
 use std::marker::Model;
 use verify_packet::{asked_hash, asked_source};
 
@@ -67,7 +66,7 @@ impl Host {
         settings: &Settings,
         key: Option<Tree>,
         guarded: bool,
-    ) -> Result<Host, Memory>
+    ) -> Result<Host, AllocError>
         requires log { 1 ≤ settings.now.log }
         requires some { 1 ≤ settings.now.filter }
         requires few { settings.now.filter ≤ 256 }
@@ -117,7 +116,7 @@ impl Host {
     }
 
     // Hands bytes down towards its port of its router, unless its guard withholds them.
-    fn put(&mut self, alloc: Global, now: u64, bytes: Bytes) -> Result<Reaction, Memory>
+    fn put(&mut self, alloc: Global, now: u64, bytes: Bytes) -> Result<Reaction, AllocError>
         requires up { down_of self.old ≡ false }
         requires soon { now < 2 ^ 48 }
         ensures reaction { IfOk result (λ reaction. reaction ≡ handed_down (standing_of self.old now) bytes) }
@@ -142,7 +141,7 @@ impl Host {
         to: Address,
         packet: u32,
         body: &[u8],
-    ) -> Result<Reaction, Memory>
+    ) -> Result<Reaction, AllocError>
         requires soon { now < 2 ^ 48 }
         requires body { length body.now ≤ most_body }
         ensures reaction { IfOk result (λ reaction. reaction
@@ -167,7 +166,7 @@ impl Host {
         alloc: Global,
         now: u64,
         bytes: &[u8],
-    ) -> Result<Reaction, Memory>
+    ) -> Result<Reaction, AllocError>
         requires soon { now < 2 ^ 48 }
         ensures reaction { IfOk result (λ reaction. reaction ≡ put_by (standing_of self.old now) bytes.now) }
         ensures follows { IfOk result (λ reaction. Follows now self.old reaction self.new) }
@@ -185,7 +184,12 @@ impl Host {
     }
 
     // What it does where bytes arrive.
-    pub(crate) fn meet(&mut self, alloc: Global, now: u64, bytes: &[u8]) -> Result<Reaction, Memory>
+    pub(crate) fn meet(
+        &mut self,
+        alloc: Global,
+        now: u64,
+        bytes: &[u8],
+    ) -> Result<Reaction, AllocError>
         requires soon { now < 2 ^ 48 }
         ensures reaction { IfOk result (λ reaction. reaction ≡ at_host (standing_of self.old now) bytes.now) }
         ensures follows { IfOk result (λ reaction. Follows now self.old reaction self.new) }
@@ -210,7 +214,7 @@ impl Host {
         now: u64,
         bytes: &[u8],
         frame: &Frame,
-    ) -> Result<Reaction, Memory>
+    ) -> Result<Reaction, AllocError>
         requires up { down_of self.old ≡ false }
         requires soon { now < 2 ^ 48 }
         requires bytes { frame_of bytes.now ≡ Some frame.now }
@@ -225,28 +229,15 @@ impl Host {
             return Reaction::dropped(alloc, self.seat.name, Reason::Stray);
         }
         match frame.kind {
-            Kind::Data => self.receive(alloc, frame.packet),
+            Kind::Data => received(alloc, self.seat.name, frame.packet),
             Kind::Challenge => self.weigh(alloc, now, frame),
             Kind::Response => Reaction::dropped(alloc, self.seat.name, Reason::Kind),
             Kind::ShutOff => self.heed(alloc, now, bytes),
         }
     }
 
-    // A packet of data is received.
-    fn receive(&self, alloc: Global, packet: u32) -> Result<Reaction, Memory>
-        ensures { IfOk result (λ reaction. reaction ≡ happens (Event.Got self.now.seat.name packet)) }
-    {
-        Reaction::happens(
-            alloc,
-            Event::Got {
-                host: self.seat.name,
-                packet: packet.into(),
-            },
-        )
-    }
-
     // What a host that is up does with a shut-off.
-    fn heed(&mut self, alloc: Global, now: u64, bytes: &[u8]) -> Result<Reaction, Memory>
+    fn heed(&mut self, alloc: Global, now: u64, bytes: &[u8]) -> Result<Reaction, AllocError>
         requires up { down_of self.old ≡ false }
         requires soon { now < 2 ^ 48 }
         requires frame { IsSome (frame_of bytes.now) }
@@ -265,7 +256,7 @@ impl Host {
     }
 
     // What a host that is up does with a challenge.
-    fn weigh(&mut self, alloc: Global, now: u64, challenge: &Frame) -> Result<Reaction, Memory>
+    fn weigh(&mut self, alloc: Global, now: u64, challenge: &Frame) -> Result<Reaction, AllocError>
         requires up { down_of self.old ≡ false }
         requires soon { now < 2 ^ 48 }
         requires challenge { length challenge.now.body ≡ 154 }
@@ -283,11 +274,11 @@ impl Host {
         if !self.log.holds_any(&asked_hash(&asked)) {
             return Reaction::dropped(alloc, self.seat.name, Reason::Unlogged);
         }
-        self.respond(alloc, now, challenge)
+        self.reply(alloc, now, challenge)
     }
 
     // Answers a challenge, if the host has a key.
-    fn respond(&mut self, alloc: Global, now: u64, challenge: &Frame) -> Result<Reaction, Memory>
+    fn reply(&mut self, alloc: Global, now: u64, challenge: &Frame) -> Result<Reaction, AllocError>
         requires up { down_of self.old ≡ false }
         requires soon { now < 2 ^ 48 }
         requires challenge { length challenge.now.body ≡ 154 }
@@ -316,7 +307,7 @@ impl Host {
         now: u64,
         named: &[u8],
         ttl: u32,
-    ) -> Result<Reaction, Memory>
+    ) -> Result<Reaction, AllocError>
         requires soon { now < 2 ^ 48 }
         requires key { has_key (key_in self.old.key) ≡ true }
         requires frame { IsSome (frame_of named.now) }
@@ -390,7 +381,7 @@ impl Host {
     }
 
     // Starts anew, and a guarded host tells what is in force.
-    pub(crate) fn rise(&mut self, alloc: Global, now: u64) -> Result<Reaction, Memory>
+    pub(crate) fn rise(&mut self, alloc: Global, now: u64) -> Result<Reaction, AllocError>
         requires soon { now < 2 ^ 48 }
         ensures reaction { IfOk result (λ reaction. reaction ≡ back_up (standing_of self.old now)) }
         ensures restarted { IsRestarted self.old self.new }

@@ -7,10 +7,9 @@ ghost use Rattle.aip_host.specs.declared.signing.State.TheVariants.{Ready};
 ghost use Rattle.aip_host.specs.Signing.{Spends, SignsValidly, IsArming, with_stop};
 ghost use Rattle.aip_host.specs.Holding.{kept_in, IsAtRest, IsWoken, HasPlace, IsSigning};
 
-use aip_addr::Memory;
 use aip_rules::Arming;
 use host_signer::{SignEnd, Signature, Signer};
-use leaf_lease::format;
+use leaf_lease::{LEASE_BYTES, LEASE_CALLS, file_size, format};
 use lease_disk::MemDisk;
 use lms_core::{PublicKey, Tree};
 use std::alloc::{AllocError, Global};
@@ -26,9 +25,6 @@ pub enum Signing {
     /// The stop that was armed fell: the key is down until its restart.
     Stopped { leaf: u32, call: u8, byte: u8 },
 }
-
-// How many bytes of a lease file stand before its leaves.
-const HEAD: usize = 18;
 
 // A key that signs, or one whose disk stopped.
 #[derive(Drop)]
@@ -66,10 +62,9 @@ impl Model for SigningKey {
 fn fresh_disk(alloc: Global, tree: &Tree) -> Result<MemDisk, AllocError>
     ensures rest { IfOk result (λ disk. IsAtRest tree.now 0 disk) }
 {
-    let height = tree.height();
-    let room = HEAD + height.leaves() as usize;
-    let disk = MemDisk::new(alloc, room, Vec::new(alloc))?;
-    match format(disk, tree.id(), height.levels() as u8) {
+    let height = tree.height().levels() as u8;
+    let disk = MemDisk::new(alloc, file_size(height), Vec::new(alloc))?;
+    match format(disk, tree.id(), height) {
         Ok(disk) => Ok(disk),
         Err(_) => unreachable!(),
     }
@@ -153,7 +148,7 @@ fn signed(
     ensures valid { IfOk result.1 (λ signing. SignsValidly (public_key_of (key_of signer)) message.now signing) }
 {
     let mut signer = signer;
-    match signer.reserve(2, 1) {
+    match signer.reserve(LEASE_CALLS, LEASE_BYTES) {
         Ok(()) => spent(signer, armed, alloc, message),
         Err(_) => (State::Ready { signer, armed }, Err(AllocError)),
     }
@@ -185,7 +180,7 @@ impl SigningKey {
     ghost use Rattle.aip_host.specs.Signing.{signing_of, next_after, stop_after, down_after, disk_after, with_stop, SameButPlace};
 
     /// The key of a tree, with no leaf spent. It makes a disk for it, formats and opens it. The only error is want of memory.
-    pub fn new(alloc: Global, tree: Tree) -> Result<SigningKey, Memory>
+    pub fn new(alloc: Global, tree: Tree) -> Result<SigningKey, AllocError>
         ensures key { IfOk result (λ held. held.key ≡ tree) }
         ensures next { IfOk result (λ held. held.next ≡ 0) }
         ensures stop { IfOk result (λ held. held.stop ≡ None) }
@@ -224,7 +219,7 @@ impl SigningKey {
 
     /// Signs with the next leaf, once it is spent on the disk. Where no leaf is left the key stays as it is; else, where a
     /// stop is armed, it falls, and the key is down. The only error is want of memory: then no leaf is spent.
-    pub fn sign(&mut self, alloc: Global, message: &[u8]) -> Result<Signing, Memory>
+    pub fn sign(&mut self, alloc: Global, message: &[u8]) -> Result<Signing, AllocError>
         requires up { self.old.is_down ≡ false }
         // How the signing ends, and how the key stands then.
         ensures valid { IfOk result (λ signing. SignsValidly (public_key_of self.old.key) message.now signing) }

@@ -8,13 +8,13 @@ ghost use Rattle.aip_host.specs.Ended.{demand_frame, ended};
 
 use crate::framing::{framed, signed, stopped};
 use crate::signing::{Signing, SigningKey};
-use aip_addr::{Address, Bytes, Memory};
+use aip_addr::{Address, Bytes};
 use aip_event::{Reason, Target};
 use aip_frame::Kind;
 use aip_rules::{Reaction, Seat};
 use lms_core::PublicKey;
 use shutoff_filter::{shutoff_body, shutoff_text};
-use std::alloc::Global;
+use std::alloc::{AllocError, Global};
 
 /// What a shut-off says.
 #[derive(Clone, Copy)]
@@ -35,7 +35,7 @@ fn short_demand(
     demand: &Demand,
     key: &PublicKey,
     signature: &[u8],
-) -> Result<Bytes, Memory>
+) -> Result<Bytes, AllocError>
     requires { length signature.now ≤ 8844 }
     ensures body { IfOk result (λ body. body
         ≡ shutoff_of demand.now.hash demand.now.issue demand.now.ttl key.now signature.now) }
@@ -59,7 +59,7 @@ fn demanded(
     demand: &Demand,
     key: &PublicKey,
     signature: &[u8],
-) -> Result<Bytes, Memory>
+) -> Result<Bytes, AllocError>
     requires short { length signature.now ≤ 8844 }
     ensures { IfOk result (λ bytes. bytes ≡ frame_bytes (demand_frame from demand.now key.now signature.now)) }
 {
@@ -75,7 +75,7 @@ fn silenced(
     demand: &Demand,
     key: &PublicKey,
     signing: Signing,
-) -> Result<Reaction, Memory>
+) -> Result<Reaction, AllocError>
     requires short { IsShort signing }
     ensures { IfOk result (λ reaction. reaction
         ≡ ended seat.now towards (demand_frame seat.now.address demand.now key.now) signing) }
@@ -97,7 +97,7 @@ pub fn silence(
     seat: &Seat,
     towards: Target,
     demand: &Demand,
-) -> Result<Reaction, Memory>
+) -> Result<Reaction, AllocError>
     requires up { key.old.is_down ≡ false }
     ensures reaction { IfOk result (λ reaction. reaction ≡ ended seat.now towards
         (demand_frame seat.now.address demand.now (public_key_of key.old.key))

@@ -6,10 +6,11 @@ ghost use Rattle.aip_host.specs.HostState.{fell_in};
 ghost use Rattle.aip_host.specs.Withholding.{held_back, withheld_by};
 
 use crate::guard::Guard;
-use aip_addr::{KeyId, Memory, Name};
+use aip_addr::{KeyId, Name};
 use aip_event::{Event, Events};
 use aip_frame::{is_frame, to_of};
 use aip_rules::Reaction;
+use std::alloc::AllocError;
 
 // The key identifier for which a guard withholds bytes: that of a frame's destination, while it is in force.
 #[tactic(auto, using(crate::proofs::Withheld::goes, crate::proofs::Withheld::stays, crate::proofs::Withheld::noise))]
@@ -43,7 +44,7 @@ fn withheld_by(guard: &Option<Guard>, now: u64, bytes: &[u8]) -> Option<KeyId>
 }
 
 // The events of a host, behind which a frame is withheld for this key identifier.
-fn withheld(host: Name, to: KeyId, events: Events) -> Result<Reaction, Memory>
+fn withheld(host: Name, to: KeyId, events: Events) -> Result<Reaction, AllocError>
     ensures { IfOk result (λ reaction. reaction ≡ record { events = events ++ event.Withheld host to ∷ []; put = None }) }
 {
     let mut events = events;
@@ -58,7 +59,7 @@ pub fn held_back(
     guard: &Option<Guard>,
     now: u64,
     reaction: Reaction,
-) -> Result<Reaction, Memory>
+) -> Result<Reaction, AllocError>
     requires soon { now < 2 ^ 48 }
     requires up { fell_in guard.now ≡ false }
     ensures { IfOk result (λ left. left ≡ held_back host guard.now now reaction) }

@@ -1,16 +1,11 @@
--- What a count of faults says of the answer of a call.
-use Rattle.std.specs.Prelude.{◌≡◌, ℕ, ◌+◌, ◌-◌, ◌^◌, ◌≤◌, min, Result, OnOk, OnErr}
+-- What the counts of the faults of a shelf say of an answer, whatever else is told.
+use Rattle.std.specs.Prelude.{◌≡◌, ℕ, ◌≤◌, List, Option, IsSome}
+use Rattle.fault_counts.specs.Causes.{Rose}
 
--- a count after one more: it stays at the greatest number of 64 bits once it is there
-abbrev pub counted : ℕ → ℕ
-counted count = min (count + 1) (2 ^ 64 - 1)
-
--- a count of faults rose, or stands at the greatest value that it can have
-abbrev pub Rose : ℕ → ℕ → Type 0
-Rose before now = counted before ≤ now
-
--- a count of faults never falls, rose where the answer is an error, and stays where it is not
-pub record HasCause {T E : Type 0} (before now : ℕ) (result : Result T E) : Type 0 where
-  pub never_falls : before ≤ now
-  pub failed : OnErr result (Rose before now)
-  pub stays : OnOk result (now ≡ before)
+-- The counts of a shelf over a call that reads named files. At a fault of reading the count of one of them rose, and at
+-- every other answer all counts stay. That of any other file stays too, where its text is told.
+pub record ReadsOnly (named : List ℕ → Type 0) (fault : Type 0) (text : List ℕ → Option (List ℕ)) (before now : List ℕ → ℕ) : Type 0 where
+  pub never_fall : (name : List ℕ) → before name ≤ now name
+  pub rose : fault → (name : List ℕ) × (named name × Rose (before name) (now name))
+  pub stay : (fault → ⊥) → (name : List ℕ) → now name ≡ before name
+  pub others : (name : List ℕ) → (named name → ⊥) → IsSome (text name) → now name ≡ before name

@@ -2,6 +2,7 @@
 ghost use Rattle.std.specs.Prelude.{◌≡◌, ◌↔◌, ◌<◌, ◌≤◌, length, take, IsTrue, IsNone, IfSome, IfOk};
 
 use crate::{Failed, Shelf};
+use fault_counts::one_more;
 use std::io::{Read, Seek, SeekFrom};
 use std::marker::Model;
 use std::rt::Files;
@@ -133,7 +134,7 @@ impl<'a, R: Files> Shelf for DirShelf<'a, R> {
         match read_kept(self.rt, &mut self.kept, name, at, into) {
             Ok(count) => Ok(count),
             Err(_) => {
-                self.faults = self.faults.saturating_add(1);
+                self.faults = one_more(self.faults);
                 Err(Failed)
             }
         }

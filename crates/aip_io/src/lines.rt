@@ -1,15 +1,14 @@
 // The lines of a text that is read piece by piece.
 ghost use Rattle.std.specs.Prelude.{◌≡◌, ◌≢◌, ◌⊎◌, ◌↔◌, ◌<◌, ◌≤◌, ◌+◌, ◌-◌, ◌^◌, ◌++◌, ℕ, List, [], length, take, drop, slice_range, vec_len, true, false, ◌&&◌, IsTrue, IsSome, IfSome, IfNone, IfOk, OnOk, OnErr, MatchOption};
+ghost use Rattle.fault_counts.specs.Causes.{Rose};
 ghost use Rattle.aip_text.specs.Lines.{has_no_line_feed};
-ghost use Rattle.aip_io.specs.Causes.{Rose};
 ghost use Rattle.aip_io.specs.Lines.{Gives, has_line, left_of, new_lines, turns_of};
 ghost use Rattle.aip_io.specs.Feeds.{IsFeed};
 ghost use Rattle.aip_io.specs.Shelf.{IsRead};
 
 use crate::{Failed, Got, Shelf};
-use aip_addr::Memory;
 use memchr::memchr;
-use std::alloc::Global;
+use std::alloc::{AllocError, Global};
 use std::marker::Model;
 
 // The room that is left for a read behind a line of full length, in bytes.
@@ -106,7 +105,7 @@ fn read_behind<S: Shelf>(
 impl Lines {
     /// A reader of lines that have at most `most` bytes. It reserves `most` + 4097 bytes, and keeps
     /// never more. The only error is want of memory.
-    pub fn new(alloc: Global, most: usize) -> Result<Lines, Memory>
+    pub fn new(alloc: Global, most: usize) -> Result<Lines, AllocError>
         requires { most ≤ 1048576 }
         ensures new { IfOk result (λ lines. lines ≡ new_lines most) }
         ensures left { IfOk result (λ lines. (text : List ℕ) → left_of text lines ≡ text) }

@@ -1,12 +1,12 @@
 // Texts in memory, with failures at chosen calls.
 ghost use Rattle.std.specs.Prelude.{◌≡◌, ◌≢◌, ◌↔◌, ◌⊎◌, ◌<◌, ◌≤◌, ◌+◌, ◌-◌, ◌^◌, ℕ, List, length, slice_get, slice_index, option_map, IsTrue, IsNone, IsSome, IfSome, IfOk, IsErr, OnOk, OnErr, Contains};
-ghost use Rattle.aip_io.specs.Causes.{counted, Rose};
+ghost use Rattle.fault_counts.specs.Causes.{counted, Rose};
 ghost use Rattle.aip_io.specs.Memory.{text_under, place_of, faults_under, new_shelf, given};
 ghost use Rattle.aip_io.specs.Shelf.{IsRead};
 
 use crate::{Failed, Shelf};
-use aip_addr::Memory;
-use std::alloc::Global;
+use fault_counts::one_more;
+use std::alloc::{AllocError, Global};
 use std::marker::Model;
 
 /// A file in memory.
@@ -63,7 +63,7 @@ impl MemShelf {
         files: Vec<File>,
         failing: Vec<u64>,
         most: usize,
-    ) -> Result<MemShelf, Memory>
+    ) -> Result<MemShelf, AllocError>
         requires { 1 ≤ most }
         ensures new { IfOk result (λ shelf. shelf ≡ new_shelf files.items failing.items most) }
         ensures faults { IfOk result (λ shelf. (name : List ℕ) → faults_under shelf name ≡ 0) }
@@ -145,7 +145,7 @@ fn count_fault(counts: &mut [u64], place: usize)
     ensures never_falls { (k : ℕ) → slice_index counts.old k ≤ slice_index counts.new k }
 {
     let count = counts[place];
-    counts[place] = count.saturating_add(1);
+    counts[place] = one_more(count);
 }
 
 impl Shelf for MemShelf {

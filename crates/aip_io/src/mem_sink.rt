@@ -1,12 +1,12 @@
 // A sink in memory, with failures at chosen calls.
 ghost use Rattle.std.specs.Prelude.{◌≡◌, ◌↔◌, ◌⊎◌, ◌<◌, ◌≤◌, ◌+◌, ◌-◌, [], ◌++◌, length, take, vec_len, vec_capacity, IsTrue, IfOk, IsErr, OnOk, OnErr, Contains, Some};
-ghost use Rattle.aip_io.specs.Causes.{counted, HasCause};
+ghost use Rattle.fault_counts.specs.Causes.{counted, HasCause};
 ghost use Rattle.aip_io.specs.Memory.{given};
 ghost use Rattle.aip_io.specs.Sink.{and_then};
 
 use crate::{Failed, Sink};
-use aip_addr::Memory;
-use std::alloc::Global;
+use fault_counts::one_more;
+use std::alloc::{AllocError, Global};
 use std::marker::Model;
 
 /// A sink in memory. It tells what it has taken. It fails at the calls that it is told to, and where its
@@ -47,7 +47,7 @@ impl MemSink {
         room: usize,
         failing: Vec<u64>,
         most: usize,
-    ) -> Result<MemSink, Memory>
+    ) -> Result<MemSink, AllocError>
         requires { 1 ≤ most }
         ensures { IfOk result (λ sink. sink ≡ record {
           taken = [];
@@ -107,7 +107,7 @@ impl Sink for MemSink {
         ensures within { IfOk result (λ n. n ≤ length piece.now) }
         ensures took { IfOk result (λ n. Some self.new.taken ≡ and_then (Some self.old.taken) (take n piece.now)) }
         ensures nothing { OnErr result (Some self.new.taken ≡ Some self.old.taken) }
-        ensures cause { HasCause self.old.faults self.new.faults result }
+        ensures cause { HasCause (IsErr result) self.old.faults self.new.faults }
 
         // Just when it fails, how much it takes, and what changes.
         ensures fails { IsErr result ↔ (Contains self.old.failing (counted self.old.calls)
@@ -122,7 +122,7 @@ impl Sink for MemSink {
     {
         self.calls = self.calls.saturating_add(1);
         if is_failing(&self.failing, self.calls, self.taken.len(), self.room) {
-            self.faults = self.faults.saturating_add(1);
+            self.faults = one_more(self.faults);
             return Err(Failed);
         }
         let left = self.room - self.taken.len();

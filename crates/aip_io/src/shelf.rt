@@ -1,6 +1,6 @@
 // Texts under names, which are read piece by piece.
 ghost use Rattle.std.specs.Prelude.{◌≡◌, ◌≢◌, ◌<◌, ◌≤◌, ◌^◌, ◌+◌, ℕ, List, Option, take, length, vec_len, IsSome, IfSome, IfOk, OnOk, OnErr, IsErrOf};
-ghost use Rattle.aip_io.specs.Causes.{Rose};
+ghost use Rattle.fault_counts.specs.Causes.{Rose};
 ghost use Rattle.aip_io.specs.Shelf.{IsRead};
 
 use crate::Failed;

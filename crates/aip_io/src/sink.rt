@@ -1,6 +1,6 @@
 // What takes bytes, piece by piece.
-ghost use Rattle.std.specs.Prelude.{◌≡◌, ◌<◌, ◌≤◌, ℕ, List, Option, take, length, IfOk, OnOk, OnErr};
-ghost use Rattle.aip_io.specs.Causes.{HasCause};
+ghost use Rattle.std.specs.Prelude.{◌≡◌, ◌<◌, ◌≤◌, ℕ, List, Option, take, length, IfOk, IsErr, OnOk, OnErr};
+ghost use Rattle.fault_counts.specs.Causes.{HasCause};
 ghost use Rattle.aip_io.specs.Sink.{and_then, TookPart};
 
 use crate::Failed;
@@ -21,7 +21,7 @@ pub trait Sink {
         ensures within { IfOk result (λ n. n ≤ length piece.now) }
         ensures took { IfOk result (λ n. taken self.new ≡ and_then (taken self.old) (take n piece.now)) }
         ensures nothing { OnErr result (taken self.new ≡ taken self.old) }
-        ensures cause { HasCause (faults self.old) (faults self.new) result };
+        ensures cause { HasCause (IsErr result) (faults self.old) (faults self.new) };
 }
 
 /// Puts all of the bytes, in as many pieces as the sink makes of them. After a failure the sink has
@@ -29,7 +29,7 @@ pub trait Sink {
 pub fn put_all<K: Sink>(sink: &mut K, bytes: &[u8]) -> Result<(), Failed>
     ensures took { OnOk result (K.taken sink.new ≡ and_then (K.taken sink.old) bytes.now) }
     ensures part { OnErr result (TookPart (K.taken sink.old) (K.taken sink.new) bytes.now) }
-    ensures cause { HasCause (K.faults sink.old) (K.faults sink.new) result }
+    ensures cause { HasCause (IsErr result) (K.faults sink.old) (K.faults sink.new) }
 {
     let mut at = 0;
     'pieces: while at < bytes.len() {

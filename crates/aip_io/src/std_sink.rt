@@ -2,6 +2,7 @@
 ghost use Rattle.std.specs.Prelude.{◌≡◌, ◌<◌, ◌≤◌, length, IfOk};
 
 use crate::{Failed, Sink};
+use fault_counts::one_more;
 use std::marker::Model;
 
 /// The standard output. It tells nothing of what it has taken. What is written there is trusted.
@@ -41,7 +42,7 @@ impl<'a, R: Print> Sink for StdSink<'a, R> {
                 return Ok(count);
             }
         }
-        self.faults = self.faults.saturating_add(1);
+        self.faults = one_more(self.faults);
         Err(Failed)
     }
 }

@@ -1,27 +1,18 @@
 -- What a step adds to what is counted.
-use Rattle.std.proofs.Common.{◌≡◌, ℕ, ◌+◌, List, [], ◌∷◌, ◌++◌, length, ap, sym, ◌∙◌, subst, append_assoc, arith}
-use Rattle.std.proofs.lemmas.List.{append-nil}
+use Rattle.std.proofs.Common.{◌≡◌, ℕ, ◌+◌, List, [], ◌∷◌, ◌++◌, length, ap, sym, ◌∙◌, subst, arith}
 use Rattle.sha2.specs.declared.Sha256.{Sha256}
 use Rattle.sha2.specs.Hashers.{Holds256}
 use Rattle.aip_event.specs.declared.event.Event.{Event}
 use Rattle.aip_event.specs.declared.input.Input.{Input}
+use Rattle.aip_event.specs.Lines.{input_text, events_text}
 use Rattle.aip_rules.specs.declared.Entry.{Entry}
 use Rattle.aip_rules.specs.declared.Entry.TheVariants.{Taken, Happened}
 use Rattle.aip_rules.specs.Step.{after_step, with_events}
-use Rattle.aip_rules.specs.Texts.{line_of, text_of}
+use Rattle.aip_rules.specs.Texts.{text_of}
+use Rattle.aip_rules.proofs.StepTexts.{text_after}
 use Rattle.aip_make.specs.declared.tally.Tally.{Tally}
-use Rattle.aip_make.specs.Making.{IsTallyOf, events_text}
+use Rattle.aip_make.specs.Making.{IsTallyOf}
 use Rattle.aip_make.specs.Summaries.{event_count}
-
--- the text with events on top is the text with their lines behind it
-text_with : (events : List Event) (tr : List Entry) → text_of (with_events events tr) ≡ text_of tr ++ events_text events
-text_with [] tr = sym (append-nil (text_of tr))
-text_with (event ∷ events) tr =
-    text_with events (Happened event ∷ tr) ∙ append_assoc (text_of tr) (line_of (Happened event)) (events_text events)
-
--- the text after a step
-text_after : (tr : List Entry) (input : Input) (events : List Event) → text_of (after_step tr input events) ≡ text_of tr ++ (line_of (Taken input) ++ events_text events)
-text_after tr input events = text_with events (Taken input ∷ tr) ∙ append_assoc (text_of tr) (line_of (Taken input)) (events_text events)
 
 -- events on top are so many more
 count_with : (events : List Event) (tr : List Entry) → event_count (with_events events tr) ≡ event_count tr + length events
@@ -31,7 +22,7 @@ count_with (event ∷ events) tr = omega (arith, count_with events (Happened eve
 -- a tally with the lines and the number of the events of a step is that of the trace with the step
 pub counted : (tr : List Entry) (input : Input) (events : List Event) (old new : Tally) (line written : List ℕ)
     → ((m : List ℕ) → Holds256 old.hasher m → Holds256 new.hasher (m ++ written)) → written ≡ line ++ events_text events → new.events ≡ old.events + length events
-    → line ≡ line_of (Taken input) → IsTallyOf tr old → IsTallyOf (after_step tr input events) new
+    → line ≡ input_text input → IsTallyOf tr old → IsTallyOf (after_step tr input events) new
 counted tr input events old new line written holds is more spelled tally = record {
   events = more ∙ ap (λ n. n + length events) tally.events ∙ sym (count_with events (Taken input ∷ tr));
   text = subst (Holds256 new.hasher) (ap (λ t. text_of tr ++ t) (is ∙ ap (λ l. l ++ events_text events) spelled) ∙ sym (text_after tr input events)) (holds (text_of tr) tally.text);

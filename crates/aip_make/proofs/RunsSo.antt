@@ -15,7 +15,7 @@ use Rattle.aip_rules.specs.declared.StepFault.{StepFault}
 use Rattle.aip_rules.specs.State.{flight_count, flight_in, flights_of}
 use Rattle.aip_rules.specs.Laws.{PutAtMostOne, flights_put}
 use Rattle.aip_rules.specs.Step.{after_step, step_of, with_events}
-use Rattle.aip_rules.specs.Texts.{Ran, by_line, by_step, ran_from, ran_over, scheduled}
+use Rattle.aip_rules.specs.Texts.{EndedRun, by_line, by_step, ran_from, ran_over, scheduled}
 use Rattle.aip_rules.proofs.Puts.{at_most_one}
 use Rattle.std.specs.Prelude.{IfOk}
 use Rattle.aip_make.specs.declared.ends.MadeEnd.{MadeEnd}
@@ -55,14 +55,14 @@ ran_input topo tr number input lines read =
     ap (by_line topo tr number (λ after. ran_from topo after (number + 1) lines)) read
 
 -- what comes behind a step, as it was refused or taken
-behind : (topo : Topology) (tr : List Entry) (number : ℕ) (input : Input) (more : List Event → List Input) (go : List Entry → Ran) (step : Result (List Event) StepFault)
+behind : (topo : Topology) (tr : List Entry) (number : ℕ) (input : Input) (more : List Event → List Input) (go : List Entry → EndedRun) (step : Result (List Event) StepFault)
     → ((events : List Event) → step ≡ Ok events → ran_from topo (after_step tr input events) (number + 1) (lines_of (schedule_of (more events))) ≡ go (after_step tr input events))
     → by_step tr number input (λ after. ran_from topo after (number + 1) (lines_of (schedule_of (behind_step step more)))) step ≡ by_step tr number input go step
 behind topo tr number input more go (Ok events) same = same events refl
 behind topo tr number input more go (Err f) same = refl
 
 -- the run of a schedule's first input and of the others
-first_run : (topo : Topology) (tr : List Entry) (number : ℕ) (input : Input) (more : List Event → List Input) (go : List Entry → Ran) → number ≤ 65536 → IsPlain input
+first_run : (topo : Topology) (tr : List Entry) (number : ℕ) (input : Input) (more : List Event → List Input) (go : List Entry → EndedRun) → number ≤ 65536 → IsPlain input
     → ((events : List Event) → step_of topo tr input ≡ Ok events
     → ran_from topo (after_step tr input events) (number + 1) (lines_of (schedule_of (more events))) ≡ go (after_step tr input events))
     → ran_from topo tr number (lines_of (schedule_of (input ∷ behind_step (step_of topo tr input) more))) ≡ by_step tr number input go (step_of topo tr input)
@@ -103,4 +103,4 @@ are_runs = λ n lines low. over (made_topology n) (topology_of (made_topology n)
 -- an answer to the made lines is one to the two texts
 pub as_texts : (n lines : ℕ) (result : Result Summary MadeEnd) → lines ≤ 60000 → IsAnswer (answer_to lines (made_run n lines)) result
     → IsAnswer (answer_to lines (ran_over (topology_of (made_topology n)) (made_schedule n lines))) result
-as_texts n lines result low answer = subst (λ (r : Ran). IsAnswer (answer_to lines r) result) (sym (are_runs n lines low)) answer
+as_texts n lines result low answer = subst (λ (r : EndedRun). IsAnswer (answer_to lines r) result) (sym (are_runs n lines low)) answer

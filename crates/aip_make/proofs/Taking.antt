@@ -7,7 +7,7 @@ use Rattle.aip_rules.specs.declared.Entry.{Entry}
 use Rattle.aip_rules.specs.declared.StepFault.{StepFault}
 use Rattle.aip_rules.specs.State.{flight_count}
 use Rattle.aip_rules.specs.Step.{after_step, step_of}
-use Rattle.aip_rules.specs.Texts.{Ran, by_step}
+use Rattle.aip_rules.specs.Texts.{EndedRun, by_step}
 use Rattle.aip_core.specs.Answers.{IsRefusal}
 use Rattle.aip_core.specs.Kept.{Kept}
 use Rattle.aip_core.specs.StandsFor.{IsStep, StandsFor}
@@ -19,7 +19,7 @@ use Rattle.aip_make.specs.Making.{HasCome, IsTallyOf}
 use Rattle.aip_make.specs.Workload.{made_from, made_input, next_state}
 
 -- the run of the made lines behind this one
-abbrev behind : Topology → ℕ → ℕ → ℕ → List Entry → Ran
+abbrev behind : Topology → ℕ → ℕ → ℕ → List Entry → EndedRun
 behind topo next index left after = made_from topo after next (index + 1) left
 
 -- the run of one line and more
@@ -39,7 +39,7 @@ by_told topo tr state index left flights input step told drawn stepped =
     ∙ ap (λ (i : Input). by_step tr (index + 1) i (behind topo (next_state index flights state) index left) (step_of topo tr i)) (sym drawn)
     ∙ ap (by_step tr (index + 1) input (behind topo (next_state index flights state) index left)) stepped
 
-module _ (topo : Topology) (course : Course) (index left flights : ℕ) (whole : Ran) (input : Input) (told : (tr : List Entry) → StandsFor topo tr course.core → flights ≡ flight_count tr) (drawn : input ≡ made_input index flights course.words) (came : HasCome topo course index (left + 1) whole) where
+module _ (topo : Topology) (course : Course) (index left flights : ℕ) (whole : EndedRun) (input : Input) (told : (tr : List Entry) → StandsFor topo tr course.core → flights ≡ flight_count tr) (drawn : input ≡ made_input index flights course.words) (came : HasCome topo course index (left + 1) whole) where
   -- the line was taken: the workload has come to the next
   pub goes : (after : Course) (events : List Event) → after.words ≡ next_state index flights course.words → IsStep course.core input after.core events
       → ((tr : List Entry) → IsTallyOf tr course.tally → IsTallyOf (after_step tr input events) after.tally) → HasCome topo after (index + 1) left whole

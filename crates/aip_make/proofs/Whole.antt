@@ -2,7 +2,7 @@
 use Rattle.std.proofs.Common.{◌≡◌, ℕ, List, [], Result, Ok, ap, sym, ◌∙◌}
 use Rattle.aip_topo.specs.declared.topology.Topology.{Topology}
 use Rattle.aip_topo.specs.Reading.{RefusedLine, topology_of}
-use Rattle.aip_rules.specs.Texts.{Ran}
+use Rattle.aip_rules.specs.Texts.{EndedRun}
 use Rattle.aip_make.specs.declared.lines.Course.{Course}
 use Rattle.aip_make.specs.declared.summary.Summary.{Summary}
 use Rattle.aip_make.specs.Ends.{IsAnswer, answer_to}
@@ -23,7 +23,7 @@ at_first text state lines course opened = record {
 }
 
 -- as many lines are left, by another count
-pub as_many : (topo : Topology) (course : Course) (index left other : ℕ) (whole : Ran) → left ≡ other → HasCome topo course index left whole → HasCome topo course index other whole
+pub as_many : (topo : Topology) (course : Course) (index left other : ℕ) (whole : EndedRun) → left ≡ other → HasCome topo course index left whole → HasCome topo course index other whole
 as_many topo course index left other whole same came = record {
   trace = came.trace;
   stands = came.stands;
@@ -32,7 +32,7 @@ as_many topo course index left other whole same came = record {
 }
 
 -- where no line is left the answer is the summary
-pub summed : (topo : Topology) (course : Course) (index left lines : ℕ) (whole : Ran) (summary : Summary) (came : HasCome topo course index left whole) → left ≡ 0
+pub summed : (topo : Topology) (course : Course) (index left lines : ℕ) (whole : EndedRun) (summary : Summary) (came : HasCome topo course index left whole) → left ≡ 0
     → summary ≡ summary_of lines came.trace → IsAnswer (answer_to lines whole) (Ok summary)
 summed topo course index left lines whole summary came none is =
     ap (answer_to lines) (sym came.rest ∙ ap (made_from topo came.trace course.words index) none) ∙ sym (ap Ok is)

@@ -1,21 +1,15 @@
 -- A workload on its way.
-use Rattle.std.specs.Prelude.{◌≡◌, ℕ, List, [], flat_map, Ok}
+use Rattle.std.specs.Prelude.{◌≡◌, ℕ, List, [], Ok}
 use Rattle.sha2.specs.Hashers.{Holds256}
-use Rattle.aip_event.specs.declared.event.Event.{Event}
 use Rattle.aip_topo.specs.declared.topology.Topology.{Topology}
 use Rattle.aip_topo.specs.Reading.{topology_of}
 use Rattle.aip_rules.specs.declared.Entry.{Entry}
-use Rattle.aip_rules.specs.declared.Entry.TheVariants.{Happened}
-use Rattle.aip_rules.specs.Texts.{Ran, line_of, text_of}
+use Rattle.aip_rules.specs.Texts.{EndedRun, text_of}
 use Rattle.aip_core.specs.StandsFor.{StandsFor}
 use Rattle.aip_make.specs.declared.lines.Course.{Course}
 use Rattle.aip_make.specs.declared.tally.Tally.{Tally}
 use Rattle.aip_make.specs.Summaries.{event_count}
 use Rattle.aip_make.specs.Workload.{made_from}
-
--- the lines of events
-abbrev pub events_text : List Event → List ℕ
-events_text events = flat_map (λ event. line_of (Happened event)) events
 
 -- what was counted is of this trace: the number of its events, and a hasher that holds its text
 pub record IsTallyOf (tr : List Entry) (tally : Tally) : Type 0 where
@@ -33,7 +27,7 @@ pub record IsOpened (text : List ℕ) (state : ℕ) (course : Course) : Type 0 w
 
 -- The made lines have come to this index, and so many are left: the core stands for a trace, which was counted, and from
 -- which the run of the lines that are left is the whole run.
-pub record HasCome (topo : Topology) (course : Course) (index left : ℕ) (whole : Ran) : Type 0 where
+pub record HasCome (topo : Topology) (course : Course) (index left : ℕ) (whole : EndedRun) : Type 0 where
   pub trace : List Entry
   pub stands : StandsFor topo trace course.core
   pub counted : IsTallyOf trace course.tally

@@ -8,7 +8,7 @@ use Rattle.aip_topo.specs.Reading.{RefusedLine, topology_of}
 use Rattle.aip_rules.specs.declared.Entry.{Entry}
 use Rattle.aip_rules.specs.State.{flight_count}
 use Rattle.aip_rules.specs.Step.{step_of}
-use Rattle.aip_rules.specs.Texts.{Done, Topology_refused, Ran, by_step}
+use Rattle.aip_rules.specs.Texts.{Done, Topology_refused, EndedRun, by_step}
 
 -- the text of the topology of workload number n
 unfoldable pub made_topology : ℕ → List ℕ
@@ -28,7 +28,7 @@ next_state index flights state = (line_input index flights state).1
 
 -- the run of so many made lines from a trace on, the first with this index and from this state: it ends at the first line
 -- that is refused
-abbrev pub made_from : Topology → List Entry → ℕ → ℕ → ℕ → Ran
+abbrev pub made_from : Topology → List Entry → ℕ → ℕ → ℕ → EndedRun
 made_from topo tr state index zero = record { trace = tr; ending = Done }
 made_from topo tr state index (suc left) =
     by_step tr (index + 1) (made_input index (flight_count tr) state)
@@ -36,10 +36,10 @@ made_from topo tr state index (suc left) =
     (step_of topo tr (made_input index (flight_count tr) state))
 
 -- the run of so many made lines over what the topology's text gives; nothing is run where it is refused
-abbrev pub made_over : Result Topology RefusedLine → ℕ → ℕ → Ran
+abbrev pub made_over : Result Topology RefusedLine → ℕ → ℕ → EndedRun
 made_over (Ok topo) state lines = made_from topo [] state 0 lines
 made_over (Err refused) state lines = record { trace = []; ending = Topology_refused refused.line refused.fault }
 
 -- the run of the first so many lines of workload number n
-abbrev pub made_run : ℕ → ℕ → Ran
+abbrev pub made_run : ℕ → ℕ → EndedRun
 made_run n lines = made_over (topology_of (made_topology n)) (state_behind n) lines

@@ -1,6 +1,6 @@
-use aip_addr::Memory;
 use aip_rules::StepFault;
 use aip_topo::{TopoEnd, TopoFault};
+use std::alloc::AllocError;
 
 /// Why a workload has no summary.
 #[derive(Clone, Copy, Debug, PartialEq, Eq)]
@@ -23,13 +23,13 @@ pub enum MadeEnd {
     Memory,
 }
 
-impl From<Memory> for MadeEnd {
+impl From<AllocError> for MadeEnd {
     ghost use Rattle.std.specs.Prelude.{◌≡◌};
     ghost use Rattle.aip_make.specs.declared.ends.MadeEnd.TheVariants.{Memory};
 
     ghost from_gives = { λ _ end. end ≡ Memory };
 
-    fn from(_: Memory) -> Self {
+    fn from(_: AllocError) -> Self {
         MadeEnd::Memory
     }
 }

@@ -2,7 +2,7 @@
 ghost use Rattle.std.specs.Prelude.{◌≡◌, ℕ, ◌+◌, ◌<◌, IfOk, IfErr, Err, List};
 ghost use Rattle.aip_topo.specs.declared.topology.Topology.{Topology};
 ghost use Rattle.aip_rules.specs.declared.Entry.{Entry};
-ghost use Rattle.aip_rules.specs.Texts.{Ran};
+ghost use Rattle.aip_rules.specs.Texts.{EndedRun};
 ghost use Rattle.aip_core.specs.StandsFor.{StandsFor};
 ghost use Rattle.aip_make.specs.Ends.{IsAnswer, answer_to};
 ghost use Rattle.aip_make.specs.Making.{HasCome, IsTallyOf};
@@ -12,12 +12,11 @@ ghost use Rattle.aip_make.specs.Workload.{made_input, next_state};
 use crate::ends::MadeEnd;
 use crate::summary::Summary;
 use crate::tally::Tally;
-use aip_addr::Memory;
 use aip_core::{Core, StepEnd};
 use aip_event::Input;
 use aip_gen::Gen;
 use sha2::Digest;
-use std::alloc::Global;
+use std::alloc::{AllocError, Global};
 
 /// A workload on its way: the network, the generator, and what was counted.
 #[derive(Drop)]
@@ -29,7 +28,7 @@ pub struct Course {
 
 // Draws the input of the line with this index.
 #[tactic(auto, unfolding(crate::specs::Workload::made_input, crate::specs::Workload::next_state))]
-fn draw_input(alloc: Global, words: &mut Gen, index: u32, flights: u32) -> Result<Input, Memory>
+fn draw_input(alloc: Global, words: &mut Gen, index: u32, flights: u32) -> Result<Input, AllocError>
     ensures input { IfOk result (λ input. input ≡ made_input index flights words.old) }
     ensures state { IfOk result (λ input. words.new ≡ next_state index flights words.old) }
 {
@@ -39,9 +38,9 @@ fn draw_input(alloc: Global, words: &mut Gen, index: u32, flights: u32) -> Resul
 /// Takes the line with this index: draws it, steps the network, and counts.
 pub fn take_line(alloc: Global, course: Course, index: u32) -> Result<Course, MadeEnd>
     requires { index < 60000 }
-    ensures goes { IfOk result (λ after. (topo : Topology) (left : ℕ) (whole : Ran)
+    ensures goes { IfOk result (λ after. (topo : Topology) (left : ℕ) (whole : EndedRun)
         → HasCome topo course index (left + 1) whole → HasCome topo after (index + 1) left whole) }
-    ensures ends { IfErr result (λ end. (topo : Topology) (lines left : ℕ) (whole : Ran)
+    ensures ends { IfErr result (λ end. (topo : Topology) (lines left : ℕ) (whole : EndedRun)
         → HasCome topo course index (left + 1) whole → IsAnswer (answer_to lines whole) (Err end)) }
 {
     let Course {

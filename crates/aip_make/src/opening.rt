@@ -8,15 +8,15 @@ ghost use Rattle.aip_make.specs.Workload.{made_over, made_run, made_topology, st
 use crate::ends::MadeEnd;
 use crate::lines::Course;
 use crate::tally::Tally;
-use aip_addr::{Bytes, Memory};
+use aip_addr::Bytes;
 use aip_core::Core;
 use aip_gen::Gen;
 use aip_topo::read;
-use std::alloc::Global;
+use std::alloc::{AllocError, Global};
 
 // The text of the topology, drawn from the first words of a new generator.
 #[tactic(auto, unfolding(crate::specs::Workload::made_topology, crate::specs::Workload::state_behind))]
-fn draw_topology(alloc: Global, n: u32) -> Result<(Bytes, Gen), Memory>
+fn draw_topology(alloc: Global, n: u32) -> Result<(Bytes, Gen), AllocError>
     ensures text { IfOk result (λ drawn. drawn.0 ≡ made_topology n) }
     ensures state { IfOk result (λ drawn. drawn.1 ≡ state_behind n) }
 {

@@ -2,7 +2,7 @@
 ghost use Rattle.std.specs.Prelude.{◌≤◌};
 ghost use Rattle.aip_topo.specs.declared.topology.Topology.{Topology};
 ghost use Rattle.aip_topo.specs.Reading.{topology_of};
-ghost use Rattle.aip_rules.specs.Texts.{Ran, ran_over};
+ghost use Rattle.aip_rules.specs.Texts.{EndedRun, ran_over};
 ghost use Rattle.aip_make.specs.Ends.{IsAnswer, answer_to};
 ghost use Rattle.aip_make.specs.Making.{HasCome};
 ghost use Rattle.aip_make.specs.Schedules.{made_schedule};
@@ -17,7 +17,7 @@ use std::alloc::Global;
 /// Takes so many lines, and sums up.
 pub fn play(alloc: Global, opened: Course, lines: u32) -> Result<Summary, MadeEnd>
     requires { lines ≤ 60000 }
-    ensures { (topo : Topology) (whole : Ran) → HasCome topo opened 0 lines whole → IsAnswer (answer_to lines whole) result }
+    ensures { (topo : Topology) (whole : EndedRun) → HasCome topo opened 0 lines whole → IsAnswer (answer_to lines whole) result }
 {
     let mut course = opened;
     'lines: for index in 0..lines {

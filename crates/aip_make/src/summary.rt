@@ -2,9 +2,8 @@
 ghost use Rattle.std.specs.Prelude.{◌≡◌, ◌++◌, IfOk, OnOk};
 ghost use Rattle.aip_make.specs.Summaries.{hash_line, number_line, summary_text};
 
-use aip_addr::Memory;
 use aip_text::{push_hex, push_number, push_space, push_text};
-use std::alloc::Global;
+use std::alloc::{AllocError, Global};
 
 /// The summary of a workload: of the trace of its lines.
 #[derive(Clone, Copy, Debug, PartialEq, Eq)]
@@ -24,7 +23,7 @@ pub struct Summary {
 impl Summary {
     /// The five lines of the summary: `lines`, `flights`, `events` and `now`, each with its number,
     /// and `trace` with the hash in hex. The only error is want of memory.
-    pub fn text(self, alloc: Global) -> Result<Vec<u8>, Memory>
+    pub fn text(self, alloc: Global) -> Result<Vec<u8>, AllocError>
         ensures { IfOk result (λ text. text.items ≡ summary_text self) }
     {
         let mut out = Vec::new(alloc);
@@ -38,7 +37,7 @@ impl Summary {
 }
 
 // Appends a word, a space, a number and a line feed.
-fn push_line(out: &mut Vec<u8>, word: &[u8], number: u64) -> Result<(), Memory>
+fn push_line(out: &mut Vec<u8>, word: &[u8], number: u64) -> Result<(), AllocError>
     ensures { OnOk result (out.new.items ≡ out.old.items ++ number_line word.now number) }
 {
     push_text(out, word)?;
@@ -48,7 +47,7 @@ fn push_line(out: &mut Vec<u8>, word: &[u8], number: u64) -> Result<(), Memory>
 }
 
 // Appends the line of a hash.
-fn push_hash(out: &mut Vec<u8>, hash: &[u8]) -> Result<(), Memory>
+fn push_hash(out: &mut Vec<u8>, hash: &[u8]) -> Result<(), AllocError>
     ensures { OnOk result (out.new.items ≡ out.old.items ++ hash_line hash.now) }
 {
     push_text(out, b"trace ")?;

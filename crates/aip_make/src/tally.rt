@@ -1,15 +1,13 @@
 // What is counted of a trace.
 ghost use Rattle.std.specs.Prelude.{◌≡◌, ◌+◌, [], List, IfOk, OnOk};
 ghost use Rattle.aip_event.specs.declared.input.Input.{Input as Taking};
+ghost use Rattle.aip_event.specs.Lines.{input_text};
 ghost use Rattle.aip_rules.specs.declared.Entry.{Entry};
-ghost use Rattle.aip_rules.specs.declared.Entry.TheVariants.{Taken};
 ghost use Rattle.aip_rules.specs.Step.{after_step};
-ghost use Rattle.aip_rules.specs.Texts.{line_of};
 ghost use Rattle.aip_make.specs.Making.{IsTallyOf};
 
-use crate::writing::{push_events, write_taken};
-use aip_addr::Memory;
-use aip_event::{Event, Input};
+use crate::writing::write_taken;
+use aip_event::{Event, Input, write_events};
 use sha2::{Digest, Sha256};
 use std::alloc::{AllocError, Global};
 
@@ -35,8 +33,8 @@ impl Tally {
     }
 
     /// Writes the line of an input that is about to be taken.
-    pub fn begin(&mut self, alloc: Global, input: &Input) -> Result<(), Memory>
-        ensures line { OnOk result (self.new.step.items ≡ line_of (Taken input.now)) }
+    pub fn begin(&mut self, alloc: Global, input: &Input) -> Result<(), AllocError>
+        ensures line { OnOk result (self.new.step.items ≡ input_text input.now) }
         ensures events { self.new.events ≡ self.old.events }
         ensures hasher { self.new.hasher ≡ self.old.hasher }
     {
@@ -44,11 +42,11 @@ impl Tally {
     }
 
     /// Counts the step that takes an input, whose line was written, with these events.
-    pub fn finish(&mut self, alloc: Global, events: &[Event]) -> Result<(), Memory>
-        ensures { OnOk result ((tr : List Entry) (input : Taking) → self.old.step.items ≡ line_of (Taken input)
+    pub fn finish(&mut self, alloc: Global, events: &[Event]) -> Result<(), AllocError>
+        ensures { OnOk result ((tr : List Entry) (input : Taking) → self.old.step.items ≡ input_text input
             → IsTallyOf tr self.old → IsTallyOf (after_step tr input events.now) self.new) }
     {
-        push_events(alloc, &mut self.step, events)?;
+        write_events(alloc, events, &mut self.step)?;
         self.events = with_more(self.events, events.len())?;
         self.hasher.update(self.step.as_slice());
         Ok(())
@@ -56,7 +54,7 @@ impl Tally {
 }
 
 // A count with more to it. Such a count that passes 64 bits has no memory to be in.
-fn with_more(count: u64, more: usize) -> Result<u64, Memory>
+fn with_more(count: u64, more: usize) -> Result<u64, AllocError>
     ensures { IfOk result (λ sum. sum ≡ count + more) }
 {
     count.checked_add(more as u64).ok_or(AllocError)

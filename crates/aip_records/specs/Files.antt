@@ -3,7 +3,7 @@ use Rattle.std.specs.Prelude.{ℕ, ◌+◌, nat_lt, Bool, not, if◌then◌else�
 use Rattle.std.specs.List.{list_any}
 use Rattle.std.specs.Str.{bytes_eq}
 use Rattle.aip_addr.specs.declared.ids.Id.{Id}
-use Rattle.aip_text.specs.Lines.{lines_of, is_skipped, has_carriage_return}
+use Rattle.aip_text.specs.Lines.{lines_of, is_skipped, has_carriage_return, most_line_bytes, most_lines}
 use Rattle.aip_text.specs.Words.{hex_of}
 use Rattle.aip_topo.specs.declared.topology.Domain.{Domain}
 use Rattle.aip_registry.specs.Record.{is_record, fields_in}
@@ -24,8 +24,8 @@ bytes_or_form (Some bytes) = Ok (Some bytes)
 -- a line by itself: the first fault of Many, Long and Form that applies, or the bytes that it writes, or a skipped line
 abbrev pub written : ℕ → List ℕ → Result (Option (List ℕ)) RecordFault
 written number line =
-    if nat_lt 65536 number then Err fault.Many else
-    if nat_lt 20000 (length line) then Err fault.Long else
+    if nat_lt most_lines number then Err fault.Many else
+    if nat_lt most_line_bytes (length line) then Err fault.Long else
     if has_carriage_return line then Err fault.Form else
     if is_skipped line then Ok None else
     bytes_or_form (hex_of line)

@@ -1,5 +1,6 @@
 -- The next line of a record file.
 use Rattle.std.specs.Prelude.{◌≡◌, ℕ, ◌≤◌, ⊤, List, [], ◌∷◌, Some, None, Ok, Err}
+use Rattle.aip_text.specs.Lines.{most_lines}
 use Rattle.aip_records.specs.Files.{written}
 use Rattle.aip_records.specs.declared.written.Written.{Written}
 use Rattle.aip_records.specs.declared.written.Written.TheVariants as line_is
@@ -25,8 +26,8 @@ IsNextOf number before after line line_is.Memory = ⊤
 
 -- only the first 65,536 lines are taken, whatever is told
 abbrev pub IsWithin : ℕ → Written → Type 0
-IsWithin number (line_is.Bytes bytes) = number ≤ 65536
-IsWithin number line_is.Skipped = number ≤ 65536
+IsWithin number (line_is.Bytes bytes) = number ≤ most_lines
+IsWithin number line_is.Skipped = number ≤ most_lines
 IsWithin number (line_is.Refused f) = ⊤
 IsWithin number line_is.End = ⊤
 IsWithin number line_is.Unread = ⊤

@@ -2,7 +2,7 @@
 ghost use Rattle.std.specs.Prelude.{◌≡◌};
 ghost use Rattle.aip_records.specs.Faults.{number_of_fault};
 
-use aip_addr::Memory;
+use std::alloc::AllocError;
 use thiserror::Error;
 
 /// Why a line of a record file is refused.
@@ -74,13 +74,13 @@ pub enum RecordsEnd {
     Memory,
 }
 
-impl From<Memory> for RecordsEnd {
+impl From<AllocError> for RecordsEnd {
     ghost use Rattle.std.specs.Prelude.{◌≡◌};
     ghost use Rattle.aip_records.specs.declared.faults.RecordsEnd.TheVariants.{Memory};
 
     ghost from_gives = { λ _ end. end ≡ Memory };
 
-    fn from(_: Memory) -> Self {
+    fn from(_: AllocError) -> Self {
         RecordsEnd::Memory
     }
 }

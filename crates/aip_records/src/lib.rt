@@ -15,7 +15,6 @@ mod listing;
 mod reading;
 mod written;
 
-pub use aip_addr::Memory;
 pub use faults::{RecordFault, RecordsEnd};
 pub use listing::list_text;
 pub use reading::read_records;

@@ -2,10 +2,9 @@
 ghost use Rattle.std.specs.Prelude.{◌≡◌, ◌++◌, ◌∷◌, [], decimal, OnOk, IfOk};
 ghost use Rattle.aip_records.specs.Listing.{kind_word, list_text, record_line};
 
-use aip_addr::Memory;
 use aip_registry::{Record, RecordKind, Registry};
 use aip_text::{push_hex, push_number, push_space, push_text};
-use std::alloc::Global;
+use std::alloc::{AllocError, Global};
 
 fn word_of(kind: RecordKind) -> &'static [u8]
     ensures { result.now ≡ kind_word kind }
@@ -17,7 +16,7 @@ fn word_of(kind: RecordKind) -> &'static [u8]
 }
 
 // Appends the numbers of a record, and ends the line.
-fn push_numbers(out: &mut Vec<u8>, number: u64, until: u64) -> Result<(), Memory>
+fn push_numbers(out: &mut Vec<u8>, number: u64, until: u64) -> Result<(), AllocError>
     ensures { OnOk result (out.new.items ≡ out.old.items ++ (32 ∷ (decimal number ++ (32 ∷ (decimal until ++ 10 ∷ []))))) }
 {
     push_space(out)?;
@@ -27,7 +26,7 @@ fn push_numbers(out: &mut Vec<u8>, number: u64, until: u64) -> Result<(), Memory
     push_text(out, b"\n")
 }
 
-fn push_record(out: &mut Vec<u8>, fields: &Record) -> Result<(), Memory>
+fn push_record(out: &mut Vec<u8>, fields: &Record) -> Result<(), AllocError>
     ensures { OnOk result (out.new.items ≡ out.old.items ++ record_line fields.now) }
 {
     push_text(out, word_of(fields.kind))?;
@@ -38,7 +37,7 @@ fn push_record(out: &mut Vec<u8>, fields: &Record) -> Result<(), Memory>
     push_numbers(out, fields.number, fields.until)
 }
 
-fn push_records(out: &mut Vec<u8>, records: &[Record]) -> Result<(), Memory>
+fn push_records(out: &mut Vec<u8>, records: &[Record]) -> Result<(), AllocError>
     ensures { OnOk result (out.new.items ≡ out.old.items ++ list_text records.now) }
 {
     for fields in records {
@@ -49,7 +48,7 @@ fn push_records(out: &mut Vec<u8>, records: &[Record]) -> Result<(), Memory>
 
 /// The records that a registry keeps, a line for each, in the order of its list: `peer` or `bind`, the signer's AD, the
 /// peer's AD or the host's EID, the number, and the tick until which it is in force. The only error is want of memory.
-pub fn list_text(alloc: Global, registry: &Registry) -> Result<Vec<u8>, Memory>
+pub fn list_text(alloc: Global, registry: &Registry) -> Result<Vec<u8>, AllocError>
     ensures { IfOk result (λ text. text.items ≡ list_text registry.now) }
 {
     let mut out = Vec::new(alloc);

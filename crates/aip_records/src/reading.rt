@@ -2,8 +2,8 @@
 ghost use Rattle.std.specs.Prelude.{◌≡◌, ◌≢◌, ◌≤◌, ◌∷◌, [], ℕ, List, Result, Some, None, Ok, IfSome, IfOk, IsErrOf, IsSome};
 ghost use Rattle.std.specs.List.{list_any};
 ghost use Rattle.std.specs.Str.{bytes_eq};
-ghost use Rattle.aip_text.specs.Lines.{lines_of};
-ghost use Rattle.aip_io.specs.Causes.{Rose};
+ghost use Rattle.fault_counts.specs.Causes.{Rose};
+ghost use Rattle.aip_text.specs.Lines.{lines_of, most_line_bytes, most_lines};
 ghost use Rattle.aip_io.specs.Lines.{left_of, new_lines};
 ghost use Rattle.aip_registry.specs.Kept.{kept_records};
 ghost use Rattle.aip_topo.specs.declared.topology.Domain.{Domain as NamedDomain};
@@ -12,12 +12,12 @@ ghost use Rattle.aip_records.specs.Turns.{EndsWith, HasCome, IsGoing, IsReadOf, 
 
 use crate::faults::{RecordFault, RecordsEnd};
 use crate::written::{Written, next_written};
-use aip_addr::{Id, Memory};
+use aip_addr::Id;
 use aip_io::{Lines, Shelf};
 use aip_registry::{Published, Registry, signer_of};
-use aip_text::LONGEST_LINE;
+use aip_text::MOST_LINE_BYTES;
 use aip_topo::Domain;
-use std::alloc::Global;
+use std::alloc::{AllocError, Global};
 
 // What a line of the record file leads to.
 #[derive(Clone, Copy, Drop)]
@@ -55,7 +55,7 @@ fn take_record(
     registry: &mut Registry,
     domains: &[Domain],
     bytes: &[u8],
-) -> Result<Option<RecordFault>, Memory>
+) -> Result<Option<RecordFault>, AllocError>
     ensures fault { IfOk result (λ f. f ≡ record_fault domains.now registry.old bytes.now) }
     ensures kept { IfOk result (λ f. f ≡ None → (published : List (List ℕ)) → registry.old ≡ kept_records published
         → registry.new ≡ kept_records (bytes.now ∷ published)) }
@@ -97,12 +97,12 @@ fn take_line<S: Shelf>(
     domains: &[Domain],
     registry: &mut Registry,
 ) -> Turn
-    requires { lines.old.most ≡ 20000 }
+    requires { lines.old.most ≡ most_line_bytes }
     ensures told { IfSome (S.text shelf.old name.now) (λ told. (whole : Result (List (List ℕ)) RefusedRecord)
         → HasCome domains.now registry.old number (lines_of (left_of told lines.old)) whole
         → IsTurn domains.now registry.new number (lines_of (left_of told lines.new)) whole result) }
-    ensures few { IsGoing result → number ≤ 65536 }
-    ensures most { lines.new.most ≡ 20000 }
+    ensures few { IsGoing result → number ≤ most_lines }
+    ensures most { lines.new.most ≡ most_line_bytes }
     ensures text { (other : List ℕ) → S.text shelf.new other ≡ S.text shelf.old other }
     ensures failed { EndsWith RecordsEnd.ReadFault result → Rose (S.faults shelf.old name.now) (S.faults shelf.new name.now) }
     ensures fine { (EndsWith RecordsEnd.ReadFault result → ⊥) → (other : List ℕ) → S.faults shelf.new other ≡ S.faults shelf.old other }
@@ -142,7 +142,7 @@ pub fn read_records<S: Shelf>(
     ensures others { (other : List ℕ) → other ≢ name.now → IsSome (S.text shelf.old other)
         → S.faults shelf.new other ≡ S.faults shelf.old other }
 {
-    let mut lines = Lines::new(alloc, LONGEST_LINE)?;
+    let mut lines = Lines::new(alloc, MOST_LINE_BYTES)?;
     let mut registry = Registry::new(alloc);
     let mut number = 1;
     'turns: loop {

@@ -1,7 +1,7 @@
 // The next line of a record file.
 ghost use Rattle.std.specs.Prelude.{◌≡◌, ◌≢◌, ◌≤◌, ◌<◌, ℕ, List, length, Err, IfSome, IsSome};
-ghost use Rattle.aip_text.specs.Lines.{lines_of};
-ghost use Rattle.aip_io.specs.Causes.{Rose};
+ghost use Rattle.fault_counts.specs.Causes.{Rose};
+ghost use Rattle.aip_text.specs.Lines.{lines_of, most_line_bytes};
 ghost use Rattle.aip_io.specs.Lines.{left_of};
 ghost use Rattle.aip_records.specs.Files.{written};
 ghost use Rattle.aip_records.specs.Next.{IsNextOf, IsWithin, IsWritten};
@@ -9,11 +9,8 @@ ghost use Rattle.aip_records.specs.Next.{IsNextOf, IsWithin, IsWritten};
 use crate::faults::RecordFault;
 use aip_addr::Bytes;
 use aip_io::{Got, Lines, Shelf};
-use aip_text::{LONGEST_LINE, has_carriage_return, is_skipped, read_hex};
+use aip_text::{MOST_LINE_BYTES, MOST_LINES, has_carriage_return, is_skipped, read_hex};
 use std::alloc::Global;
-
-/// The most lines of a record file.
-pub const MOST_LINES: u32 = 65_536;
 
 /// What the next line of a record file is.
 #[derive(Drop)]
@@ -35,7 +32,7 @@ pub enum Written {
 // A line of at most 20,000 bytes by itself: the first fault that applies, or the bytes that it writes, or a line that is
 // skipped.
 fn judge(alloc: Global, number: u32, line: &[u8]) -> Written
-    requires { length line.now ≤ 20000 }
+    requires { length line.now ≤ most_line_bytes }
     ensures judged { IsWritten number line.now result }
     ensures within { IsWithin number result }
     ensures read { result ≢ Written.Unread }
@@ -58,7 +55,7 @@ fn judge(alloc: Global, number: u32, line: &[u8]) -> Written
 
 // The first fault of a line that is too long.
 fn fault_of_long(number: u32) -> RecordFault
-    ensures { (line : List ℕ) → 20000 < length line → written number line ≡ Err result }
+    ensures { (line : List ℕ) → most_line_bytes < length line → written number line ≡ Err result }
 {
     if number > MOST_LINES {
         RecordFault::Many
@@ -75,11 +72,11 @@ pub fn next_written<S: Shelf>(
     lines: &mut Lines,
     number: u32,
 ) -> Written
-    requires { lines.old.most ≡ 20000 }
+    requires { lines.old.most ≡ most_line_bytes }
     ensures told { IfSome (S.text shelf.old name.now) (λ told.
         IsNextOf number (lines_of (left_of told lines.old)) (lines_of (left_of told lines.new)) lines.new.line result) }
     ensures within { IsWithin number result }
-    ensures most { lines.new.most ≡ 20000 }
+    ensures most { lines.new.most ≡ most_line_bytes }
     ensures text { (other : List ℕ) → S.text shelf.new other ≡ S.text shelf.old other }
     ensures failed { result ≡ Written.Unread → Rose (S.faults shelf.old name.now) (S.faults shelf.new name.now) }
     ensures fine { result ≢ Written.Unread → (other : List ℕ) → S.faults shelf.new other ≡ S.faults shelf.old other }

@@ -9,7 +9,7 @@ use Rattle.byteorder.specs.Numbers.{big_number-reads_back, big_from-lt, big_from
 use Rattle.aip_registry.specs.declared.records.RecordKind.{RecordKind}
 use Rattle.aip_registry.specs.declared.records.RecordKind.TheVariants.{Peer, Bind}
 use Rattle.aip_registry.specs.declared.records.Record.{Record}
-use Rattle.aip_registry.specs.Record.{kind_byte, kind_at, fields_bytes, is_record, fields_in, key_in, signature_in, Fits, IsRecord, ReadsBack}
+use Rattle.aip_registry.specs.Record.{kind_byte, kind_at, fields_bytes, is_record, fields_in, key_in, signature_in, RecordFits, IsRecord, ReadsBack}
 
 -- each number is one that a byte holds
 abbrev pub IsBytes : List ℕ → Type 0
@@ -55,7 +55,7 @@ regrouped : (a b c d e : List ℕ) → ((a ++ b) ++ (c ++ d)) ++ e ≡ a ++ (b +
 regrouped a b c d e = simp append_assoc
 
 -- the parts of what stands behind the first two bytes
-module _ (r : Record) (rest : List ℕ) (h : Fits r) where
+module _ (r : Record) (rest : List ℕ) (h : RecordFits r) where
   ad_first : take 20 (behind r rest) ≡ r.ad.bytes
   ad_first = take_at r.ad.bytes (r.other.bytes ++ (big_bytes 8 r.number ++ (big_bytes 8 r.until ++ rest))) 20 h.ad
 
@@ -100,7 +100,7 @@ spelled_behind r rest =
     ap (λ (t : List ℕ). 1 ∷ kind_byte r.kind ∷ t) (regrouped r.ad.bytes r.other.bytes (big_bytes 8 r.number) (big_bytes 8 r.until) rest)
 
 -- what is read of these bytes
-fields_back : (r : Record) (rest : List ℕ) → Fits r → fields_in (1 ∷ kind_byte r.kind ∷ behind r rest) ≡ r
+fields_back : (r : Record) (rest : List ℕ) → RecordFits r → fields_in (1 ∷ kind_byte r.kind ∷ behind r rest) ≡ r
 unfolding fields_in
 fields_back r rest h =
     same (kind_at-byte r.kind) (ad_first r rest h) (other_next r rest h) (number_next r rest h) (until_next r rest h)
@@ -182,7 +182,7 @@ behind_again bytes small long =
     ∙ seam 22 20 bytes)
     ∙ seam 2 20 bytes
 
-fields_fit : (bytes : List ℕ) → IsBytes bytes → 114 ≤ length bytes → Fits (fields_in bytes)
+fields_fit : (bytes : List ℕ) → IsBytes bytes → 114 ≤ length bytes → RecordFits (fields_in bytes)
 unfolding fields_in
 fields_fit bytes small long = record {
   ad = part_length 2 20 bytes (omega arith);
@@ -217,7 +217,7 @@ pub no_spelling : (bytes : List ℕ) → is_record bytes ≡ false → (r : Reco
 no_spelling bytes h r key signature spelled = let back = (reads_back bytes r key signature spelled).whole in cc
 
 -- bytes that are made of a record, a key and a signature are read as these
-pub made_back : (bytes said key signature : List ℕ) (r : Record) → bytes ≡ said ++ (key ++ signature) → said ≡ fields_bytes r → Fits r → length key ≡ 56
+pub made_back : (bytes said key signature : List ℕ) (r : Record) → bytes ≡ said ++ (key ++ signature) → said ≡ fields_bytes r → RecordFits r → length key ≡ 56
     → ReadsBack bytes r key signature
 made_back bytes said key signature r e is fits whole =
     reads_back bytes r key signature (record { spelled = e ∙ ap (λ (t : List ℕ). t ++ (key ++ signature)) is; fits = fits; whole_key = whole })

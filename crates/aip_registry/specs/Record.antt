@@ -27,7 +27,7 @@ abbrev pub record_of : Record → List ℕ → List ℕ → List ℕ
 record_of r key signature = fields_bytes r ++ (key ++ signature)
 
 -- the fields of a record have their sizes
-pub record Fits (r : Record) : Type 0 where
+pub record RecordFits (r : Record) : Type 0 where
   pub ad : length r.ad.bytes ≡ 20
   pub other : length r.other.bytes ≡ 20
   pub number : r.number < 2 ^ 64
@@ -36,7 +36,7 @@ pub record Fits (r : Record) : Type 0 where
 -- the bytes are the spelling of a record with this key and this signature
 pub record IsRecord (bytes : List ℕ) (r : Record) (key signature : List ℕ) : Type 0 where
   pub spelled : bytes ≡ record_of r key signature
-  pub fits : Fits r
+  pub fits : RecordFits r
   pub whole_key : length key ≡ 56
 
 -- ---- reading

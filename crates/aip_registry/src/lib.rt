@@ -20,7 +20,6 @@ mod published;
 mod records;
 mod registry;
 
-pub use aip_addr::Memory;
 pub use published::Published;
 pub use records::{Record, RecordKind, read_record, record_bytes, record_text, signer_of};
 pub use registry::Registry;

@@ -2,14 +2,14 @@
 ghost use Rattle.std.specs.Prelude.{◌≡◌, ◌↔◌, ◌≤◌, ◌+◌, ◌++◌, ℕ, List, length, take, drop, IfOk, IfSome, IfNone, None};
 ghost use Rattle.byteorder.specs.Endian.{big_bytes};
 ghost use Rattle.aip_registry.specs.declared.records.Record.{Record as Fields};
-ghost use Rattle.aip_registry.specs.Record.{Fits, IsRecord, ReadsBack, fields_bytes, fields_in, is_record, key_in, kind_at, kind_byte, record_in, record_of, record_text_of, signer_in, signature_in};
+ghost use Rattle.aip_registry.specs.Record.{RecordFits, IsRecord, ReadsBack, fields_bytes, fields_in, is_record, key_in, kind_at, kind_byte, record_in, record_of, record_text_of, signer_in, signature_in};
 ghost use Rattle.aip_registry.specs.Kept.{publication};
 ghost use Rattle.aip_registry.specs.declared.published.Published.TheVariants as published;
 
-use aip_addr::{Bytes, Id, Memory};
+use aip_addr::{Bytes, Id};
 use byteorder::{BigEndian, ByteOrder};
 use lms_core::PublicKey;
-use std::alloc::Global;
+use std::alloc::{AllocError, Global};
 
 /// The least bytes that a record has.
 pub const SHORTEST: usize = 114;
@@ -115,7 +115,7 @@ fn id_fits(id: &Id)
 
 // The fields of a record have their sizes.
 fn fields_fit(fields: &Record)
-    ensures { Fits fields.now }
+    ensures { RecordFits fields.now }
 {
     id_fits(&fields.ad);
     id_fits(&fields.other);
@@ -130,7 +130,7 @@ pub fn record_bytes(
     fields: &Record,
     key: &PublicKey,
     signature: &[u8],
-) -> Result<Bytes, Memory>
+) -> Result<Bytes, AllocError>
     ensures spelled { IfOk result (λ bytes. bytes ≡ record_of fields.now key.now signature.now) }
     // They are read as what they were made of.
     ensures read_back { IfOk result (λ bytes. ReadsBack bytes fields.now key.now signature.now) }

@@ -8,9 +8,9 @@ ghost use Rattle.aip_registry.specs.declared.records.RecordKind.{RecordKind as K
 
 use crate::published::Published;
 use crate::records::{Record, RecordKind, SHORTEST, fields_in, is_record, key_in, record_text};
-use aip_addr::{Id, Memory, owns};
+use aip_addr::{Id, owns};
 use lms_core::verify_under;
-use std::alloc::Global;
+use std::alloc::{AllocError, Global};
 use std::collections::BTreeMap;
 use std::marker::Model;
 
@@ -93,7 +93,7 @@ fn has_signature(bytes: &[u8], fields: &Record) -> bool
 }
 
 // The records that entries stand for, which are in order.
-fn records_in(alloc: Global, terms: &BTreeMap<Subject, Term>) -> Result<Vec<Record>, Memory>
+fn records_in(alloc: Global, terms: &BTreeMap<Subject, Term>) -> Result<Vec<Record>, AllocError>
     ensures records { IfOk result (λ records. records.items ≡ records_in terms.now.entries) }
     ensures in_order { IsInOrder (records_in terms.now.entries) }
 {
@@ -132,7 +132,7 @@ impl Registry {
     }
 
     // Keeps a record, in place of the one on its subject if there is one.
-    fn put(&mut self, fields: &Record) -> Result<(), Memory>
+    fn put(&mut self, fields: &Record) -> Result<(), AllocError>
         ensures kept { OnOk result (self.new ≡ with_record fields.now self.old) }
         ensures memory { OnErr result (self.new ≡ self.old) }
         ensures needs { OnErr result (kept_on fields.now.kind fields.now.ad fields.now.other self.old ≡ None) }
@@ -146,7 +146,7 @@ impl Registry {
     }
 
     // Keeps a record where none of its kind, AD and other is kept with its number or a greater one.
-    fn keep(&mut self, fields: &Record) -> Result<Published, Memory>
+    fn keep(&mut self, fields: &Record) -> Result<Published, AllocError>
         ensures answer { IfOk result (λ said. said ≡ against (kept_on fields.now.kind fields.now.ad fields.now.other self.old) fields.now.number) }
         ensures kept { IfOk result (λ said. self.new ≡ (if is_taken said then with_record fields.now self.old else self.old)) }
         ensures memory { OnErr result (self.new ≡ self.old) }
@@ -167,7 +167,7 @@ impl Registry {
     /// Publishes bytes: they are kept as a record, or the first reason why not is told, and nothing changes. The only error
     /// is want of memory; nothing changes then either, and it comes only where a record would be kept of whose kind, AD and
     /// other there is none.
-    pub fn publish(&mut self, bytes: &[u8]) -> Result<Published, Memory>
+    pub fn publish(&mut self, bytes: &[u8]) -> Result<Published, AllocError>
         ensures answer { IfOk result (λ said. said ≡ publication self.old bytes.now) }
         ensures kept { OnOk result (self.new ≡ after self.old bytes.now) }
         // Of all that was published, the records that are kept are the newest.
@@ -207,7 +207,7 @@ impl Registry {
 
     /// The records that are kept, peerings first, then in the order of their ADs, then of their peers or hosts. The only
     /// error is want of memory.
-    pub fn list(&self, alloc: Global) -> Result<Vec<Record>, Memory>
+    pub fn list(&self, alloc: Global) -> Result<Vec<Record>, AllocError>
         ensures list { IfOk result (λ records. records.items ≡ self.now) }
         ensures in_order { IfOk result (λ records. IsInOrder records.items) }
         // Each is the newest that was published on what it is about.

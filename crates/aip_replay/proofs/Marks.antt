@@ -11,16 +11,16 @@ use Rattle.aip_event.specs.Reading.{input_of}
 use Rattle.aip_event.proofs.InputLaws.{input_again, input_found}
 use Rattle.aip_rules.specs.declared.Entry.{Entry}
 use Rattle.aip_rules.specs.declared.Entry.TheVariants.{Taken, Happened}
-use Rattle.aip_rules.specs.Texts.{line_of, text_of}
+use Rattle.aip_rules.specs.Texts.{entry_text, text_of}
 use Rattle.aip_replay.specs.Texts.{and_inputs, inputs_at, inputs_on, is_marked, one_input, text_of_lines}
 use Rattle.aip_replay.specs.Marks.{entry_mark, event_mark, shown}
 use Rattle.aip_replay.proofs.Feeds.{all_append, all_first, all_rest}
 
 -- ## The text of a trace
 
-line_is : (entry : Entry) → line_of entry ≡ text_of_lines (entry_mark entry ∷ [])
-line_is (Taken input) = sym (append-nil (line_of (Taken input)))
-line_is (Happened event) = sym (append-nil (line_of (Happened event)))
+line_is : (entry : Entry) → entry_text entry ≡ text_of_lines (entry_mark entry ∷ [])
+line_is (Taken input) = sym (append-nil (entry_text (Taken input)))
+line_is (Happened event) = sym (append-nil (entry_text (Happened event)))
 
 pub text_joined : (xs ys : List (List ℕ)) → text_of_lines (xs ++ ys) ≡ text_of_lines xs ++ text_of_lines ys
 text_joined xs ys = flat_map-append (λ (line : List ℕ). line ++ 10 ∷ []) xs ys
@@ -29,7 +29,7 @@ text_joined xs ys = flat_map-append (λ (line : List ℕ). line ++ 10 ∷ []) xs
 pub text_shown : (tr : List Entry) → text_of tr ≡ text_of_lines (shown tr)
 text_shown [] = refl
 text_shown (entry ∷ tr) =
-    ap (λ (t : List ℕ). t ++ line_of entry) (text_shown tr) ∙ ap (λ (t : List ℕ). text_of_lines (shown tr) ++ t) (line_is entry)
+    ap (λ (t : List ℕ). t ++ entry_text entry) (text_shown tr) ∙ ap (λ (t : List ℕ). text_of_lines (shown tr) ++ t) (line_is entry)
     ∙ sym (text_joined (shown tr) (entry_mark entry ∷ []))
 
 -- ## Inputs on lines

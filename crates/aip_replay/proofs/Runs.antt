@@ -3,7 +3,7 @@ use Rattle.std.proofs.Common.{◌≡◌, ℕ, ◌≤◌, cond, List, [], ◌∷�
 use Rattle.std.specs.List.{AllByRecursion}
 use Rattle.std.proofs.lemmas.Bool.{cond_both}
 use Rattle.std.proofs.lemmas.List.{append-nil}
-use Rattle.aip_text.specs.Lines.{is_skipped, lines_of}
+use Rattle.aip_text.specs.Lines.{is_skipped, lines_of, most_line_bytes}
 use Rattle.aip_event.specs.declared.input.Input.{Input}
 use Rattle.aip_event.specs.Lines.{IsInput}
 use Rattle.aip_event.specs.Reading.{input_of}
@@ -12,7 +12,7 @@ use Rattle.aip_topo.specs.Sound.{IsSound}
 use Rattle.aip_topo.specs.declared.topology.Topology.{Topology}
 use Rattle.aip_rules.specs.declared.Entry.{Entry}
 use Rattle.aip_rules.specs.Step.{trace_of}
-use Rattle.aip_rules.specs.Texts.{inputs_in, inputs_in_line, lines_before, most_line_bytes, ran, text_of}
+use Rattle.aip_rules.specs.Texts.{inputs_in, inputs_in_line, lines_before, ran, text_of}
 use Rattle.aip_rules.proofs.Lines.{of_lines}
 use Rattle.aip_replay.specs.Laws.{RunsAreTraceTexts}
 use Rattle.aip_replay.specs.Marks.{shown}

@@ -19,7 +19,8 @@ use Rattle.aip_rules.specs.declared.Entry.{Entry}
 use Rattle.aip_rules.specs.declared.Neighbour.{Neighbour}
 use Rattle.aip_rules.specs.declared.Neighbour.TheVariants as neighbour
 use Rattle.aip_rules.specs.declared.Seat.{Seat}
-use Rattle.aip_rules.specs.Nodes.{is_same_address, links_after, links_of, name_at, name_in, neighbour_at, neighbours_after, neighbours_by, neighbours_of, port_if, ports_in, ports_of_part, seat_named, seat_with_address, seats_after, seats_of, target_at, target_towards}
+use Rattle.aip_addr.specs.Ids.{is_same_address}
+use Rattle.aip_rules.specs.Nodes.{links_after, links_of, name_at, name_in, neighbour_at, neighbours_after, neighbours_by, neighbours_of, port_if, ports_in, ports_of_part, seat_named, seat_with_address, seats_after, seats_of, target_at, target_towards}
 use Rattle.aip_rules.specs.Routes.{domains_of_routers, goal_of, links_by, links_now, port_of_seat, port_or, port_to, port_to_goal}
 use Rattle.aip_rules.specs.State.{is_up}
 use Rattle.aip_rules.proofs.Sizes.{found_all, placed_all}

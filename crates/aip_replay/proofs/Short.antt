@@ -4,7 +4,8 @@ use Rattle.std.specs.Prelude.{codes, decimal, IfSome}
 use Rattle.aip_frame.specs.declared.frame.Frame.{Frame}
 use Rattle.aip_frame.specs.declared.frame.Kind.TheVariants.{ShutOff}
 use Rattle.aip_frame.specs.Frame.{frame_of}
-use Rattle.aip_event.specs.Lines.{IsInput, IsNumber, IsTarget, event_line, input_line, target_word}
+use Rattle.aip_text.specs.Words.{IsNumber}
+use Rattle.aip_event.specs.Lines.{IsInput, IsTarget, event_line, input_line, target_word}
 use Rattle.aip_event.specs.declared.input.Target.{Target}
 use Rattle.aip_event.specs.declared.input.Target.TheVariants as target
 use Rattle.aip_event.specs.declared.input.Input.{Input}
@@ -12,7 +13,7 @@ use Rattle.aip_event.specs.declared.input.Input.TheVariants as input
 use Rattle.aip_event.specs.declared.event.Event.{Event}
 use Rattle.aip_event.specs.declared.event.Event.TheVariants as event
 use Rattle.shutoff_filter.specs.Body.{order_in}
-use Rattle.shutoff_filter.specs.declared.entries.Entry.{Entry as ShutOffEntry}
+use Rattle.shutoff_filter.specs.declared.entries.ShutOffEntry.{ShutOffEntry as ShutOffEntry}
 use Rattle.aip_rules.specs.declared.Entry.TheVariants.{Taken}
 use Rattle.aip_rules.proofs.Sizes.{IsSizedAddress, IsSizedId}
 use Rattle.aip_replay.specs.Marks.{entry_mark, event_mark}

@@ -2,7 +2,7 @@
 use Rattle.std.proofs.Common.{◌≡◌, ℕ, ◌&&◌, Bool, true, false, cond, not, List, length, Option, Some, None, refl, arith, lit<}
 use Rattle.std.specs.Prelude.{IfSome, nat_le, nat_lt}
 use Rattle.std.proofs.lemmas.Bool.{cond_both, leb-false}
-use Rattle.aip_addr.specs.Ids.{is_owner}
+use Rattle.aip_addr.specs.Ids.{is_owner, is_same_address}
 use Rattle.aip_addr.specs.declared.ids.Address.{Address}
 use Rattle.aip_frame.specs.declared.frame.Frame.{Frame}
 use Rattle.aip_frame.specs.Frame.{Fits, IsFrame, frame_of}
@@ -14,8 +14,7 @@ use Rattle.aip_event.specs.declared.event.Reason.{Reason}
 use Rattle.aip_event.specs.declared.event.Reason.TheVariants as reason
 use Rattle.aip_topo.specs.Sound.{IsSound}
 use Rattle.aip_topo.specs.declared.topology.Topology.{Topology}
-use Rattle.accept_cache.specs.Keys.{pair_of, same_id, wildcard_of}
-use Rattle.accept_cache.specs.Accepted.{is_fresh_pair, is_fresh_wildcard}
+use Rattle.accept_cache.specs.Keys.{same_id}
 use Rattle.first_hop.specs.declared.HostVerdict.{HostVerdict}
 use Rattle.first_hop.specs.declared.HostVerdict.TheVariants as host
 use Rattle.first_hop.specs.Verdict.{host_verdict}
@@ -32,11 +31,12 @@ use Rattle.verify_packet.specs.declared.responses.Checked.TheVariants as checked
 use Rattle.aip_rules.specs.declared.Entry.{Entry}
 use Rattle.aip_rules.specs.declared.Neighbour.{Neighbour}
 use Rattle.aip_rules.specs.declared.Neighbour.TheVariants as neighbour
-use Rattle.aip_rules.specs.Accepted.{limits_of, pair_uses, wildcard_uses}
-use Rattle.aip_rules.specs.Nodes.{is_same_address, neighbour_at}
+use Rattle.aip_rules.specs.declared.Verdict.{Verdict}
+use Rattle.aip_rules.specs.declared.Verdict.TheVariants.{Asks, Foreign, Forwards}
+use Rattle.aip_rules.specs.Nodes.{neighbour_at}
 use Rattle.aip_rules.specs.Reaction.{dropped}
 use Rattle.aip_rules.specs.Records.{records_kept, trusts}
-use Rattle.aip_rules.specs.Router.{Arrival, Asks, Foreign, Forwards, Verdict, asked, at_router, by_verdict, challenge_frame, checked_frame, forwarded, frame_at_router, is_challenge, is_response, makes_wildcard, of_border, of_host, own_frame, passed, proved, responded, router_key, taken_at_router, verdict_at, verdict_by}
+use Rattle.aip_rules.specs.Router.{Arrival, SourceKnown, asked, at_router, by_verdict, challenge_frame, checked_frame, forwarded, frame_at_router, is_challenge, is_response, makes_wildcard, of_border, of_host, own_frame, passed, proved, responded, router_key, source_known, taken_at_router, verdict_at, verdict_by}
 use Rattle.aip_rules.specs.Routes.{port_to}
 use Rattle.aip_rules.specs.State.{now_of}
 use Rattle.aip_rules.proofs.Sizes.{IsSizedAddress}
@@ -65,12 +65,12 @@ border_low back border.Proved low = tt
 border_low back border.Wild low = tt
 border_low back border.Ask low = low
 
-verdict_low : (topo : Topology) (kept : List Record) (now : ℕ) (at : Arrival) (found : Option Neighbour) (source : Address) (back : Option ℕ) (fresh wild : Bool) → IsLow at.port → IfSome back IsLow
-    → IsLowVerdict (verdict_by topo kept now at found source back fresh wild)
-verdict_low topo kept now at None source back fresh wild port low = low
-verdict_low topo kept now at (Some (neighbour.Host name)) source back fresh wild port low = host_low at.port (host_verdict (not (same_id source.ad at.self.address.ad)) fresh) port
-verdict_low topo kept now at (Some (neighbour.Link other far marked)) source back fresh wild port low =
-    border_low back (port_verdict (trusts topo kept now at.self other marked) (leads_back back at.port) fresh wild) low
+verdict_low : (topo : Topology) (kept : List Record) (now : ℕ) (at : Arrival) (found : Option Neighbour) (source : SourceKnown) → IsLow at.port → IfSome source.back IsLow
+    → IsLowVerdict (verdict_by topo kept now at found source)
+verdict_low topo kept now at None source port low = low
+verdict_low topo kept now at (Some (neighbour.Host name)) source port low = host_low at.port (host_verdict (not (same_id source.address.ad at.self.address.ad)) source.fresh) port
+verdict_low topo kept now at (Some (neighbour.Link other far marked)) source port low =
+    border_low source.back (port_verdict (trusts topo kept now at.self other marked) (leads_back source.back at.port) source.fresh source.wild) low
 
 -- ## Responses
 
@@ -154,10 +154,7 @@ module _ (leaves : ℕ) (topo : Topology) (sound : IsSound topo) (tr : List Entr
     checked_short out low =
         let key = router_key topo tr at.place at.self in
         let verdict = verdict_at topo tr at frame.from in
-        let back = port_to topo tr at.place at.self frame.from in
-        let is = verdict_low topo (records_kept tr) (now_of tr) at (neighbour_at topo at.place at.port) frame.from back
-        (is_fresh_pair (limits_of topo.settings) (pair_uses tr at.self.name) (now_of tr) (pair_of frame.from at.port))
-        (is_fresh_wildcard (limits_of topo.settings) (wildcard_uses tr at.self.name) (now_of tr) (wildcard_of frame.from.ad at.port))
+        let is = verdict_low topo (records_kept tr) (now_of tr) at (neighbour_at topo at.place at.port) (source_known topo tr at frame.from)
         port (port_low topo tr at.place at.self frame.from sound) in
         let rest = by_verdict topo key (now_of tr) at frame out verdict in
         let closed = cond (is_challenge frame.kind) (forwarded topo at out cause.Exempt frame) rest in

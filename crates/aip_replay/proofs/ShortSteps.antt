@@ -19,7 +19,7 @@ use Rattle.aip_topo.specs.declared.topology.Router.{Router}
 use Rattle.aip_topo.specs.declared.topology.Topology.{Topology}
 use Rattle.lms_core.specs.Tree.{Key}
 use Rattle.shutoff_filter.specs.Entries.{greatest, in_force, is_before, is_key, lasts, with_greatest}
-use Rattle.shutoff_filter.specs.declared.entries.Entry.{Entry as ShutOffEntry}
+use Rattle.shutoff_filter.specs.declared.entries.ShutOffEntry.{ShutOffEntry as ShutOffEntry}
 use Rattle.aip_rules.specs.declared.Entry.{Entry}
 use Rattle.aip_rules.specs.declared.Flight.{Flight}
 use Rattle.aip_rules.specs.declared.Reaction.{Reaction}
@@ -27,12 +27,12 @@ use Rattle.aip_rules.specs.declared.Seat.{Seat}
 use Rattle.aip_rules.specs.declared.StepFault.{StepFault}
 use Rattle.aip_rules.specs.declared.StepFault.TheVariants as fault
 use Rattle.aip_rules.specs.Host.{sent_frame}
-use Rattle.aip_rules.specs.Nodes.{address_named, is_guarded, key_named, links_of, neighbours_of, router_named, seat_named, seats_of}
+use Rattle.aip_rules.specs.Nodes.{address_named, is_guarded, key_named, links_of, neighbours_of, place_of_router, seat_named, seats_of}
 use Rattle.aip_rules.specs.Reaction.{nothing, puts}
 use Rattle.aip_rules.specs.Records.{publishes, records_kept}
 use Rattle.aip_rules.specs.Standing.{next_leaf, standing, told_to}
 use Rattle.aip_rules.specs.State.{armed_halt, armed_stop, flight_at, flight_count, flights_of, frame_in, input_count, now_of}
-use Rattle.aip_rules.specs.Step.{arrives, arrives_at_port, arrives_at_router, arrives_at_seat, can_be_put, delivered, halt_armed, has_key, injected, injected_at_host, injected_at_port, most_bytes, outcome_of, published, put_raw, refused_if, relinked, restarted, sent, shut_named, shut_off, shut_with, stop_armed}
+use Rattle.aip_rules.specs.Step.{arrives, arrives_at_port, arrives_at_router, arrives_at_seat, can_be_put, delivered, armed_with_halt, has_key, injected, injected_at_host, injected_at_port, most_bytes, outcome_of, published, put_raw, refused_if, relinked, restarted, sent, shut_named, shut_off, shut_with, armed_with_stop}
 use Rattle.aip_rules.proofs.Puts.{flight_fits, short_put}
 use Rattle.aip_rules.proofs.Sizes.{HasSizedAddress, placed_all, seat_sized}
 use Rattle.aip_replay.specs.Marks.{shown}
@@ -153,7 +153,7 @@ module _ (topo : Topology) (sound : IsSound topo) (tr : List Entry) (plain : IsP
   at_seat (Some seat) bytes is brief = arrival_short (input_count tr) (standing topo tr seat) (standing_short seat is) bytes brief
 
   arrives_short : (to : Target) (bytes : List ℕ) → IsShortTarget to → AreBrief bytes → IsShortReaction (input_count tr) (arrives topo tr to bytes)
-  arrives_short (target.Port name port) bytes is brief = at_port (router_named topo.routers name) port bytes is.1 brief
+  arrives_short (target.Port name port) bytes is brief = at_port (place_of_router topo.routers name) port bytes is.1 brief
   arrives_short (target.Host name) bytes is brief = at_seat (seat_named (seats_of topo) name) bytes (seated name) brief
 
   delivered_short : (flight : Option Flight) → IfSome flight IsShortPut → IsShortOutcome (delivered topo tr flight)
@@ -174,7 +174,7 @@ module _ (topo : Topology) (sound : IsSound topo) (tr : List Entry) (plain : IsP
   injected_short : (to : Target) (bytes : List ℕ) → IsTarget to → AreBrief bytes → IsShortOutcome (injected topo to bytes)
   injected_short (target.Port name port) bytes is brief =
       let low = is.1 in
-      injected_there (router_named topo.routers name) (target.Port name port) port bytes (name_word name is.0, omega arith) brief
+      injected_there (place_of_router topo.routers name) (target.Port name port) port bytes (name_word name is.0, omega arith) brief
   injected_short (target.Host name) bytes is brief = injected_here (seat_named (seats_of topo) name) (target.Host name) bytes (name_word name is) brief
 
   shut_key_short : (seat : Seat) (named : Frame) (ttl : ℕ) (key : Option Key) → IsSeated seat → Fits named → ttl < 2 ^ 32 → IsShortOutcome (shut_with topo tr seat named ttl key)
@@ -200,13 +200,13 @@ module _ (topo : Topology) (sound : IsSound topo) (tr : List Entry) (plain : IsP
   relinked_short link =
       allowed_or (IsShortReaction (input_count tr)) (nat_lt link (length (links_of topo))) fault.Range (Ok nothing) (λ e. nothing_short (input_count tr))
 
-  armed_short : (seat : Option Seat) (call byte : ℕ) → IsShortOutcome (stop_armed topo seat call byte)
+  armed_short : (seat : Option Seat) (call byte : ℕ) → IsShortOutcome (armed_with_stop topo seat call byte)
   armed_short None call byte = tt
   armed_short (Some seat) call byte =
       refused_or (IsShortReaction (input_count tr)) ((call == 0) || (nat_lt 2 call || nat_le 256 byte)) fault.Range _
       (λ e. allowed_or (IsShortReaction (input_count tr)) (has_key (key_named topo.parts seat.name)) fault.Keyless (Ok nothing) (λ e. nothing_short (input_count tr)))
 
-  halted_short : (seat : Option Seat) (call byte : ℕ) → IsShortOutcome (halt_armed seat call byte)
+  halted_short : (seat : Option Seat) (call byte : ℕ) → IsShortOutcome (armed_with_halt seat call byte)
   halted_short None call byte = tt
   halted_short (Some seat) call byte =
       refused_or (IsShortReaction (input_count tr)) ((call == 0) || (nat_lt 4 call || nat_le 256 byte)) fault.Range (Ok nothing) (λ e. nothing_short (input_count tr))
@@ -227,7 +227,7 @@ module _ (topo : Topology) (sound : IsSound topo) (tr : List Entry) (plain : IsP
   outcome_short (Cut link) is = relinked_short link
   outcome_short (Mend link) is = relinked_short link
   outcome_short (Shutoff host flight ttl) is = shut_off_short (seat_named (seats_of topo) host) (flight_at tr flight) ttl (seated host)
-  outcome_short (Restart node) is = restarted_short (seat_named (seats_of topo) node) (router_named topo.routers node) (seated node)
+  outcome_short (Restart node) is = restarted_short (seat_named (seats_of topo) node) (place_of_router topo.routers node) (seated node)
   outcome_short (Stop host call byte) is = armed_short (seat_named (seats_of topo) host) call byte
   outcome_short (Halt host call byte) is = halted_short (seat_named (seats_of topo) host) call byte
   outcome_short (Publish bytes) is = published_short bytes is
@@ -264,7 +264,7 @@ module _ (topo : Topology) (tr : List Entry) where
   host_bytes (Some seat) to bytes = put_bytes (can_be_put (length bytes)) bytes (Ok (puts to bytes)) refl
 
   target_bytes : (to : Target) (bytes : List ℕ) → IfOk (injected topo to bytes) (λ r. length bytes ≤ 9216)
-  target_bytes (target.Port name port) bytes = injected_bytes (router_named topo.routers name) (target.Port name port) port bytes
+  target_bytes (target.Port name port) bytes = injected_bytes (place_of_router topo.routers name) (target.Port name port) port bytes
   target_bytes (target.Host name) bytes = host_bytes (seat_named (seats_of topo) name) (target.Host name) bytes
 
   -- what holds whatever comes of an input

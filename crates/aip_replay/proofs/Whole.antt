@@ -10,8 +10,9 @@ use Rattle.aip_topo.specs.Reading.{RefusedLine, topology_of}
 use Rattle.aip_topo.specs.Sound.{IsSound}
 use Rattle.aip_topo.specs.declared.topology.Topology.{Topology}
 use Rattle.aip_core.specs.StandsFor.{StandsFor}
+use Rattle.aip_sim.specs.Judged.{IsOrUnread}
 use Rattle.aip_replay.specs.Answers.{Answers, IsRight, IsUnread}
-use Rattle.aip_replay.specs.Judged.{IsOrUnread, Judges, end_by, end_over, is_topology_refused}
+use Rattle.aip_replay.specs.Judged.{JudgesReplay, end_by, end_over, is_topology_refused}
 use Rattle.aip_replay.specs.Texts.{IsTraceLine}
 use Rattle.aip_replay.specs.Turns.{HasCome, IsOpened, IsTurn, IsUnopened, JudgesAt}
 use Rattle.aip_replay.specs.declared.ends.ReplayEnd.{ReplayEnd}
@@ -143,14 +144,14 @@ ends_none : (r : Result Topology RefusedLine) (topo : Topology) → r ≡ Ok top
 ends_none r topo given = ap end_over given
 
 pub judges_opened : (t : Option (List ℕ)) (judge : Judge) (unread : Type 0) (end : ReplayEnd) → IfSome t (λ told. IsOpened told judge) → is_topology_refused end ≡ false
-    → IfSome t (λ told. Judges told unread end)
+    → IfSome t (λ told. JudgesReplay told unread end)
 judges_opened None judge unread end opened passed = tt
 judges_opened (Some told) judge unread end opened passed = record {
-  comes = subst (λ o. IfSome o (λ expected. IsOrUnread expected unread end)) (sym (ends_none (topology_of told) opened.topo opened.given)) tt;
+  comes = subst (λ o. IfSome o (λ expected. IsOrUnread replay_end.Memory replay_end.ReadFault expected unread end)) (sym (ends_none (topology_of told) opened.topo opened.given)) tt;
   only = λ refused. absurd (true≢false (sym refused ∙ passed));
 }
 
-cut_or : (end expected : ReplayEnd) (unread : Type 0) → IsUnread end → (end ≡ replay_end.ReadFault → unread) → IsOrUnread expected unread end
+cut_or : (end expected : ReplayEnd) (unread : Type 0) → IsUnread end → (end ≡ replay_end.ReadFault → unread) → IsOrUnread replay_end.Memory replay_end.ReadFault expected unread end
 cut_or replay_end.ReadFault expected unread cut rose = inr (inr (refl, rose refl))
 cut_or replay_end.Memory expected unread cut rose = inr (inl refl)
 cut_or replay_end.Holds expected unread cut rose = absurd cut
@@ -167,17 +168,17 @@ not_both (replay_end.Topology line f) cut is = cut
 
 -- how the topology text decides a replay that was never opened
 pub judges_unopened : (t : Option (List ℕ)) (unread : Type 0) (end : ReplayEnd) → (end ≡ replay_end.ReadFault → unread) → IfSome t (λ told. IsUnopened told end)
-    → IfSome t (λ told. Judges told unread end)
+    → IfSome t (λ told. JudgesReplay told unread end)
 judges_unopened None unread end rose h = tt
 judges_unopened (Some told) unread end rose (inl cut) = record {
   comes = each (end_by told);
   only = λ is. absurd (not_both end cut is);
 }
   where
-    each : (o : Option ReplayEnd) → IfSome o (λ expected. IsOrUnread expected unread end)
+    each : (o : Option ReplayEnd) → IfSome o (λ expected. IsOrUnread replay_end.Memory replay_end.ReadFault expected unread end)
     each None = tt
     each (Some expected) = cut_or end expected unread cut rose
 judges_unopened (Some told) unread end rose (inr by) = record {
-  comes = subst (λ o. IfSome o (λ expected. IsOrUnread expected unread end)) (sym by) (inl refl);
+  comes = subst (λ o. IfSome o (λ expected. IsOrUnread replay_end.Memory replay_end.ReadFault expected unread end)) (sym by) (inl refl);
   only = λ is. by;
 }

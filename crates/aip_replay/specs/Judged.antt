@@ -1,9 +1,10 @@
 -- What the text of a topology by itself says of the answer of a replay.
-use Rattle.std.specs.Prelude.{◌≡◌, ◌⊎◌, ℕ, Bool, true, false, List, Option, Some, None, IfSome, Result, Ok, Err}
+use Rattle.std.specs.Prelude.{◌≡◌, ℕ, Bool, true, false, List, Option, Some, None, IfSome, Result, Ok, Err}
 use Rattle.aip_topo.specs.declared.topology.Topology.{Topology}
 use Rattle.aip_topo.specs.Reading.{RefusedLine, topology_of}
 use Rattle.aip_sim.specs.declared.topologies.TopologyEnd.{TopologyEnd}
 use Rattle.aip_sim.specs.declared.topologies.TopologyEnd.TheVariants as topology_end
+use Rattle.aip_sim.specs.Judged.{IsOrUnread}
 use Rattle.aip_replay.specs.declared.ends.ReplayEnd.{ReplayEnd}
 use Rattle.aip_replay.specs.declared.ends.ReplayEnd.TheVariants as replay_end
 
@@ -30,12 +31,8 @@ end_over (Err refused) = Some (replay_end.Topology refused.line refused.fault)
 abbrev pub end_by : List ℕ → Option ReplayEnd
 end_by text = end_over (topology_of text)
 
--- the answer is the one that is expected, or want of memory, or a fault of reading that has its cause
-abbrev pub IsOrUnread : ReplayEnd → Type 0 → ReplayEnd → Type 0
-IsOrUnread expected rose end = (end ≡ expected) ⊎ ((end ≡ replay_end.Memory) ⊎ ((end ≡ replay_end.ReadFault) × rose))
-
 -- A topology text that by itself ends every replay ends this one, unless its file couldn't be read or there was no memory;
 -- and only such a text is refused.
-pub record Judges (text : List ℕ) (unread : Type 0) (end : ReplayEnd) : Type 0 where
-  pub comes : IfSome (end_by text) (λ expected. IsOrUnread expected unread end)
+pub record JudgesReplay (text : List ℕ) (unread : Type 0) (end : ReplayEnd) : Type 0 where
+  pub comes : IfSome (end_by text) (λ expected. IsOrUnread replay_end.Memory replay_end.ReadFault expected unread end)
   pub only : is_topology_refused end ≡ true → end_by text ≡ Some end

@@ -2,14 +2,14 @@
 use Rattle.std.specs.Prelude.{◌≡◌, ℕ, ◌≤◌, Bool, true, if◌then◌else◌, List, [], ◌∷◌, ◌++◌, length, take, drop, codes, flat_map, Option, Some, None}
 use Rattle.std.specs.List.{AllByRecursion}
 use Rattle.std.specs.Str.{bytes_eq}
-use Rattle.aip_text.specs.Lines.{lines_of, has_no_line_feed}
+use Rattle.aip_text.specs.Lines.{lines_of, has_no_line_feed, most_line_bytes}
 use Rattle.aip_event.specs.declared.input.Input.{Input}
 use Rattle.aip_event.specs.Lines.{IsInput}
 use Rattle.aip_event.specs.Reading.{input_of}
 use Rattle.aip_topo.specs.declared.topology.Topology.{Topology}
 use Rattle.aip_rules.specs.declared.Entry.{Entry}
 use Rattle.aip_rules.specs.Step.{most_inputs, trace_of}
-use Rattle.aip_rules.specs.Texts.{most_line_bytes, text_of}
+use Rattle.aip_rules.specs.Texts.{text_of}
 
 -- a line of a trace text: at most 20,000 bytes, and no line feed among them
 pub record IsTraceLine (line : List ℕ) : Type 0 where

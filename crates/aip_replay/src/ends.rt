@@ -1,6 +1,6 @@
-use aip_addr::Memory;
 use aip_sim::TopologyEnd;
 use aip_topo::TopoFault;
+use std::alloc::AllocError;
 
 /// How a replay ends.
 #[derive(Clone, Copy, Debug, PartialEq, Eq)]
@@ -26,13 +26,13 @@ pub enum ReplayEnd {
     Memory,
 }
 
-impl From<Memory> for ReplayEnd {
+impl From<AllocError> for ReplayEnd {
     ghost use Rattle.std.specs.Prelude.{◌≡◌};
     ghost use Rattle.aip_replay.specs.declared.ends.ReplayEnd.TheVariants.{Memory};
 
     ghost from_gives = { λ _ end. end ≡ Memory };
 
-    fn from(_: Memory) -> Self {
+    fn from(_: AllocError) -> Self {
         ReplayEnd::Memory
     }
 }

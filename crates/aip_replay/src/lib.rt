@@ -21,7 +21,6 @@ mod replays;
 mod tests;
 mod turns;
 
-pub use aip_addr::Memory;
 pub use ends::ReplayEnd;
 pub use laws::{
     a_first_part_begins_a_trace, a_run_writes_a_trace_text, a_text_has_one_trace,

@@ -4,10 +4,9 @@ ghost use Rattle.std.specs.Str.{bytes_eq};
 ghost use Rattle.aip_replay.specs.Lines.{IsReadOn};
 ghost use Rattle.aip_replay.specs.Marks.{event_mark};
 
-use aip_addr::Memory;
 use aip_event::{Event, Input, read_input, write_event};
 use aip_text::push_text;
-use std::alloc::Global;
+use std::alloc::{AllocError, Global};
 
 /// Whether a line is that of the event, which is written to the buffer.
 pub fn is_line_of(
@@ -15,7 +14,7 @@ pub fn is_line_of(
     event: &Event,
     line: &[u8],
     buffer: &mut Vec<u8>,
-) -> Result<bool, Memory>
+) -> Result<bool, AllocError>
     ensures { IfOk result (λ same. same ≡ bytes_eq (event_mark event.now) line.now) }
 {
     buffer.clear();
@@ -25,7 +24,7 @@ pub fn is_line_of(
 }
 
 /// The input on a line, and None where the line isn't marked as that of an input, or is the line of none.
-pub fn input_on(alloc: Global, line: &[u8]) -> Result<Option<Input>, Memory>
+pub fn input_on(alloc: Global, line: &[u8]) -> Result<Option<Input>, AllocError>
     ensures { IfOk result (IsReadOn line.now) }
 {
     if line.len() < 2 || &line[..2] != b"> ".as_slice() {

@@ -1,13 +1,14 @@
 // A whole replay.
 ghost use Rattle.std.specs.Prelude.{◌≡◌, ◌⊎◌, ℕ, List, [], true, false, IfSome, IfOk, IfErr, IsErrOf};
-ghost use Rattle.aip_io.specs.Causes.{Rose};
+ghost use Rattle.fault_counts.specs.Causes.{Rose};
+ghost use Rattle.aip_text.specs.Lines.{most_line_bytes};
+ghost use Rattle.aip_io.specs.Causes.{ReadsOnly};
 ghost use Rattle.aip_io.specs.Lines.{new_lines, left_of};
 ghost use Rattle.aip_topo.specs.declared.topology.Topology.{Topology};
 ghost use Rattle.aip_topo.specs.Sound.{IsSound};
 ghost use Rattle.aip_core.specs.StandsFor.{StandsFor};
-ghost use Rattle.aip_sim.specs.Causes.{ReadsOnly};
 ghost use Rattle.aip_replay.specs.Answers.{Answers, IsRight, IsUnread};
-ghost use Rattle.aip_replay.specs.Judged.{is_topology_refused, Judges};
+ghost use Rattle.aip_replay.specs.Judged.{is_topology_refused, JudgesReplay};
 ghost use Rattle.aip_replay.specs.Turns.{IsOpened, IsUnopened};
 
 use crate::ends::ReplayEnd;
@@ -16,7 +17,7 @@ use aip_core::Core;
 use aip_event::Events;
 use aip_io::{Lines, Shelf};
 use aip_sim::read_topology;
-use aip_text::LONGEST_LINE;
+use aip_text::MOST_LINE_BYTES;
 use std::alloc::Global;
 
 // A replay before its first line.
@@ -29,7 +30,7 @@ struct Opened {
 // Reads the topology, and makes what a replay needs.
 fn open<S: Shelf>(alloc: Global, shelf: &mut S, name: &str) -> Result<Opened, ReplayEnd>
     ensures judge { IfOk result (λ opened. IfSome (S.text shelf.old name.now) (λ told. IsOpened told opened.judge)) }
-    ensures lines { IfOk result (λ opened. opened.lines ≡ new_lines 20000) }
+    ensures lines { IfOk result (λ opened. opened.lines ≡ new_lines most_line_bytes) }
     ensures left { IfOk result (λ opened. (text : List ℕ) → left_of text opened.lines ≡ text) }
     ensures refused { IfErr result (λ end. IfSome (S.text shelf.old name.now) (λ told. IsUnopened told end)) }
     ensures text { (other : List ℕ) → S.text shelf.new other ≡ S.text shelf.old other }
@@ -37,7 +38,7 @@ fn open<S: Shelf>(alloc: Global, shelf: &mut S, name: &str) -> Result<Opened, Re
         (S.text shelf.old) (S.faults shelf.old) (S.faults shelf.new) }
 {
     let topology = read_topology(alloc, shelf, name)?;
-    let lines = Lines::new(alloc, LONGEST_LINE)?;
+    let lines = Lines::new(alloc, MOST_LINE_BYTES)?;
     let core = Core::new(alloc, topology)?;
     let judge = Judge {
         core,
@@ -49,7 +50,7 @@ fn open<S: Shelf>(alloc: Global, shelf: &mut S, name: &str) -> Result<Opened, Re
 
 // Judges the file line by line.
 fn play<S: Shelf>(alloc: Global, shelf: &mut S, name: &str, opened: Opened) -> ReplayEnd
-    requires lines { opened.lines ≡ new_lines 20000 }
+    requires lines { opened.lines ≡ new_lines most_line_bytes }
     requires left { (text : List ℕ) → left_of text opened.lines ≡ text }
     ensures told { IfSome (S.text shelf.old name.now) (λ file. (topo : Topology) → IsSound topo → StandsFor topo [] opened.judge.core
         → opened.judge.due ≡ [] → IsUnread result ⊎ IsRight topo file result) }
@@ -82,7 +83,7 @@ pub fn replay<S: Shelf>(alloc: Global, shelf: &mut S, topo: &str, trace: &str) -
         Answers topology file result)) }
     // A topology that is refused is the answer whatever the trace's file does.
     ensures topology { IfSome (S.text shelf.old topo.now) (λ told.
-        Judges told (Rose (S.faults shelf.old topo.now) (S.faults shelf.new topo.now)) result) }
+        JudgesReplay told (Rose (S.faults shelf.old topo.now) (S.faults shelf.new topo.now)) result) }
     // A fault comes only where the count of one of the two files rose, and no count rises at another answer.
     ensures counts { ReadsOnly (λ name. (name ≡ topo.now) ⊎ (name ≡ trace.now)) (result ≡ ReplayEnd.ReadFault)
         (S.text shelf.old) (S.faults shelf.old) (S.faults shelf.new) }

@@ -99,6 +99,25 @@ fn each_read_fails_in_turn(rt: HostRuntime) -> Result<(), Fail> {
     Ok(())
 }
 
+// A first line that is wrong, and more than a piece of lines behind it.
+const WRONG_AT_ONCE: &[u8] =
+    b"tick 1\n> tick 1\n> tick 1\n> tick 1\n> tick 1\n> tick 1\n> tick 1\n> tick 1\n> tick 1\n";
+
+#[test]
+fn nothing_is_read_behind_a_wrong_line(rt: HostRuntime) -> Result<(), Fail> {
+    let alloc = rt.alloc();
+    // Five reads for the topology and its end, and the sixth for the piece that the first line is in.
+    assert_eq!(rt;
+        answer(alloc, TOPOLOGY, WRONG_AT_ONCE, 6)?,
+        ReplayEnd::ReadFault
+    );
+    assert_eq!(rt;
+        answer(alloc, TOPOLOGY, WRONG_AT_ONCE, 7)?,
+        ReplayEnd::Wrong { line: 1 }
+    );
+    Ok(())
+}
+
 #[test]
 fn a_refused_topology_is_told(rt: HostRuntime) -> Result<(), Fail> {
     let end = answer(rt.alloc(), b"router r x open 00\n", b"", 0)?;

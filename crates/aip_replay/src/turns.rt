@@ -1,9 +1,10 @@
 // One line of a file, judged.
 ghost use Rattle.std.specs.Prelude.{◌≡◌, ◌+◌, ◌≤◌, ◌<◌, ℕ, ◌∷◌, ◌++◌, [], List, length, false, Some, IfSome};
+ghost use Rattle.aip_text.specs.Lines.{most_line_bytes};
+ghost use Rattle.aip_io.specs.Causes.{ReadsOnly};
 ghost use Rattle.aip_io.specs.Lines.{left_of, turns_of};
 ghost use Rattle.aip_topo.specs.declared.topology.Topology.{Topology};
 ghost use Rattle.aip_topo.specs.Sound.{IsSound};
-ghost use Rattle.aip_sim.specs.Causes.{ReadsOnly};
 ghost use Rattle.aip_replay.specs.Answers.{IsRight, IsUnread};
 ghost use Rattle.aip_replay.specs.Judged.{is_topology_refused};
 ghost use Rattle.aip_replay.specs.Lines.{IsReadOn};
@@ -126,12 +127,12 @@ pub fn take_line<S: Shelf>(
     judge: Judge,
     buffer: &mut Vec<u8>,
 ) -> Turn
-    requires { lines.old.most ≡ 20000 }
+    requires { lines.old.most ≡ most_line_bytes }
     ensures told { IfSome (S.text shelf.old name.now) (λ told. (topo : Topology) (file : List ℕ) → IsSound topo
         → JudgesAt topo judge number file (left_of told lines.old) → IsTurn topo number file (left_of told lines.new) result) }
     ensures known { IsPassed result }
     ensures takes { IsGoing result → turns_of lines.new + 2 ≤ turns_of lines.old }
-    ensures most { lines.new.most ≡ 20000 }
+    ensures most { lines.new.most ≡ most_line_bytes }
     ensures text { (other : List ℕ) → S.text shelf.new other ≡ S.text shelf.old other }
     ensures counts { ReadsOnly (λ other. other ≡ name.now) (EndsWith ReplayEnd.ReadFault result)
         (S.text shelf.old) (S.faults shelf.old) (S.faults shelf.new) }

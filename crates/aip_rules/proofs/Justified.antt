@@ -21,12 +21,12 @@ use Rattle.aip_rules.specs.declared.Seat.{Seat}
 use Rattle.aip_rules.specs.declared.StepFault.{StepFault}
 use Rattle.aip_rules.specs.declared.StepFault.TheVariants as fault
 use Rattle.aip_rules.specs.State.{now_of, input_count, flight_at, flight_count, frame_in}
-use Rattle.aip_rules.specs.Nodes.{seats_of, seat_named, router_named, address_named, links_of, neighbours_of, key_named}
+use Rattle.aip_rules.specs.Nodes.{seats_of, seat_named, place_of_router, address_named, links_of, neighbours_of, key_named}
 use Rattle.aip_rules.specs.Reaction.{nothing, puts, events_on}
 use Rattle.aip_rules.specs.Records.{publishes, records_kept}
 use Rattle.aip_rules.specs.Standing.{standing}
 use Rattle.aip_rules.specs.Host.{sent_frame}
-use Rattle.aip_rules.specs.Step.{most_bytes, most_inputs, can_be_put, refused_if, sent, put_raw, arrives_at_router, arrives_at_port, arrives_at_seat, arrives, delivered, injected_at_port, injected_at_host, injected, shut_with, shut_named, shut_off, restarted, has_key, stop_armed, halt_armed, published, outcome_of, events_of, step_of, after_step, goes_on, trace_from}
+use Rattle.aip_rules.specs.Step.{most_bytes, most_inputs, can_be_put, refused_if, sent, put_raw, arrives_at_router, arrives_at_port, arrives_at_seat, arrives, delivered, injected_at_port, injected_at_host, injected, shut_with, shut_named, shut_off, restarted, has_key, armed_with_stop, armed_with_halt, published, outcome_of, events_of, step_of, after_step, goes_on, trace_from}
 use Rattle.aip_rules.specs.Promises.{ForwardsAreJustified, HoldsOfAll}
 use Rattle.aip_rules.proofs.Publications.{of_publication}
 use Rattle.aip_rules.proofs.JustifiedBacked.{IsQuiet, AreBacked, Follow, quiet_follow, put_follows, still_backed, forwards_backed}
@@ -70,7 +70,7 @@ injected_host_quiet None to bytes = tt
 injected_host_quiet (Some seat) to bytes = where_allowed (can_be_put (length bytes)) fault.Range (Ok (puts to bytes)) tt
 
 injected_quiet : (topo : Topology) (to : Target) (bytes : List ℕ) → IsQuietOutcome (injected topo to bytes)
-injected_quiet topo (target.Port name port) bytes = injected_port_quiet topo (router_named topo.routers name) _ port bytes
+injected_quiet topo (target.Port name port) bytes = injected_port_quiet topo (place_of_router topo.routers name) _ port bytes
 injected_quiet topo (target.Host name) bytes = injected_host_quiet (seat_named (seats_of topo) name) _ bytes
 
 shut_with_quiet : (topo : Topology) (tr : List Entry) (seat : Seat) (named : Frame) (ttl : ℕ) (key : Option Key) → IsQuietOutcome (shut_with topo tr seat named ttl key)
@@ -91,12 +91,12 @@ restarted_quiet topo tr (Some seat) router = back_quiet (standing topo tr seat)
 restarted_quiet topo tr None (Some router) = tt
 restarted_quiet topo tr None None = tt
 
-armed_quiet : (topo : Topology) (seat : Option Seat) (call byte : ℕ) → IsQuietOutcome (stop_armed topo seat call byte)
+armed_quiet : (topo : Topology) (seat : Option Seat) (call byte : ℕ) → IsQuietOutcome (armed_with_stop topo seat call byte)
 armed_quiet topo None call byte = tt
 armed_quiet topo (Some seat) call byte =
     unless ((call == 0) || (nat_lt 2 call || nat_le 256 byte)) fault.Range _ (where_allowed (has_key (key_named topo.parts seat.name)) fault.Keyless (Ok nothing) tt)
 
-halt_quiet : (seat : Option Seat) (call byte : ℕ) → IsQuietOutcome (halt_armed seat call byte)
+halt_quiet : (seat : Option Seat) (call byte : ℕ) → IsQuietOutcome (armed_with_halt seat call byte)
 halt_quiet None call byte = tt
 halt_quiet (Some seat) call byte = unless ((call == 0) || (nat_lt 4 call || nat_le 256 byte)) fault.Range (Ok nothing) tt
 
@@ -116,7 +116,7 @@ quiet_outcome topo tr (Ok reaction) quiet = quiet_follow topo tr reaction.events
 quiet_outcome topo tr (Err f) quiet = tt
 
 module _ (topo : Topology) (sound : IsSound topo) (tr : List Entry) (backed : AreBacked topo tr) (number : ℕ) (flight : Flight) (put : flight_at tr number ≡ Some flight) where
-  at_place_follows : (name : List ℕ) (port : ℕ) → flight.target ≡ target.Port name port → (place : ℕ) → router_named topo.routers name ≡ Some place
+  at_place_follows : (name : List ℕ) (port : ℕ) → flight.target ≡ target.Port name port → (place : ℕ) → place_of_router topo.routers name ≡ Some place
       → (self : Option Router) → slice_get topo.routers place ≡ self → Follow topo (delivering tr number) (arrives_at_router topo tr place self port flight.bytes).events
   at_place_follows name port to place named None there = tt
   at_place_follows name port to place named (Some self) there =
@@ -125,11 +125,11 @@ module _ (topo : Topology) (sound : IsSound topo) (tr : List Entry) (backed : Ar
         sound = sound;
         backed = backed;
         put = put;
-        named = record { named = subst (λ n. router_named topo.routers n ≡ Some place) name_is named; there = there };
+        named = record { named = subst (λ n. place_of_router topo.routers n ≡ Some place) name_is named; there = there };
         arrives = to ∙ ap (λ n. target.Port n port) name_is;
       }) (frame_of flight.bytes) refl
 
-  at_port_follows : (name : List ℕ) (port : ℕ) → flight.target ≡ target.Port name port → (place : Option ℕ) → router_named topo.routers name ≡ place
+  at_port_follows : (name : List ℕ) (port : ℕ) → flight.target ≡ target.Port name port → (place : Option ℕ) → place_of_router topo.routers name ≡ place
       → Follow topo (delivering tr number) (arrives_at_port topo tr place port flight.bytes).events
   at_port_follows name port to None named = tt
   at_port_follows name port to (Some place) named = at_place_follows name port to place named (slice_get topo.routers place) refl
@@ -139,7 +139,7 @@ module _ (topo : Topology) (sound : IsSound topo) (tr : List Entry) (backed : Ar
   at_seat_follows (Some seat) = quiet_follow topo (delivering tr number) _ (host_quiet (standing topo tr seat) flight.bytes)
 
   at_target_follows : (to : Target) → flight.target ≡ to → Follow topo (delivering tr number) (arrives topo tr to flight.bytes).events
-  at_target_follows (target.Port name port) to = at_port_follows name port to (router_named topo.routers name) refl
+  at_target_follows (target.Port name port) to = at_port_follows name port to (place_of_router topo.routers name) refl
   at_target_follows (target.Host name) to = at_seat_follows (seat_named (seats_of topo) name)
 
 delivered_follows : (topo : Topology) → IsSound topo → (tr : List Entry) (number : ℕ) → AreBacked topo tr → (flight : Option Flight) → flight_at tr number ≡ flight
@@ -162,7 +162,7 @@ outcome_follows topo sound tr (Mend link) backed = quiet_outcome topo _ _ (where
 outcome_follows topo sound tr (Shutoff host flight ttl) backed =
     quiet_outcome topo _ _ (shut_off_quiet topo tr (seat_named (seats_of topo) host) (flight_at tr flight) ttl)
 outcome_follows topo sound tr (Restart node) backed =
-    quiet_outcome topo _ _ (restarted_quiet topo tr (seat_named (seats_of topo) node) (router_named topo.routers node))
+    quiet_outcome topo _ _ (restarted_quiet topo tr (seat_named (seats_of topo) node) (place_of_router topo.routers node))
 outcome_follows topo sound tr (Stop host call byte) backed = quiet_outcome topo _ _ (armed_quiet topo (seat_named (seats_of topo) host) call byte)
 outcome_follows topo sound tr (Halt host call byte) backed = quiet_outcome topo _ _ (halt_quiet (seat_named (seats_of topo) host) call byte)
 outcome_follows topo sound tr (Publish bytes) backed = quiet_outcome topo _ _ (published_quiet tr bytes)

@@ -11,14 +11,14 @@ use Rattle.aip_rules.specs.declared.Entry.{Entry}
 use Rattle.aip_rules.specs.declared.Entry.TheVariants.{Taken, Happened}
 use Rattle.aip_rules.specs.declared.Flight.{Flight}
 use Rattle.aip_rules.specs.State.{now_of}
-use Rattle.aip_rules.specs.Nodes.{router_named}
+use Rattle.aip_rules.specs.Nodes.{place_of_router}
 use Rattle.aip_rules.specs.Reaction.{put_event}
 use Rattle.aip_rules.specs.Step.{with_events}
 use Rattle.aip_rules.specs.Promises.{Answered, ManyAnswered, ForwardIsJustified, ForwardsAreJustified}
 
 -- the router of this name, at its place
 pub record IsRouterNamed (topo : Topology) (name : List ℕ) (place : ℕ) (self : Router) : Type 0 where
-  pub named : router_named topo.routers name ≡ Some place
+  pub named : place_of_router topo.routers name ≡ Some place
   pub there : slice_get topo.routers place ≡ Some self
 
 -- a source that the router of this name proves on a trace answered for the port, for as long as an answer lasts

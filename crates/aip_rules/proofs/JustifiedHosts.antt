@@ -1,6 +1,6 @@
 -- What a host does is none of the events that want backing.
 use Rattle.std.proofs.Common.{ℕ, Bool, true, false, cond, not, List, [], ◌∷◌, Option, Some, None}
-use Rattle.aip_addr.specs.Ids.{key_id_of}
+use Rattle.aip_addr.specs.Ids.{key_id_of, is_same_address}
 use Rattle.aip_addr.specs.declared.ids.KeyId.{KeyId}
 use Rattle.aip_frame.specs.declared.frame.Frame.{Frame}
 use Rattle.aip_frame.specs.declared.frame.Kind.{Kind}
@@ -12,14 +12,13 @@ use Rattle.lms_core.specs.Tree.{Key}
 use Rattle.sent_log.specs.Log.{is_logged_at_all}
 use Rattle.verify_packet.specs.Challenge.{Asked, asked_in}
 use Rattle.verify_packet.specs.Response.{response_text_of}
-use Rattle.shutoff_filter.specs.declared.entries.Entry.{Entry as ShutOffEntry}
+use Rattle.shutoff_filter.specs.declared.entries.ShutOffEntry.{ShutOffEntry as ShutOffEntry}
 use Rattle.shutoff_filter.specs.declared.judging.Heard.{Heard}
 use Rattle.shutoff_filter.specs.declared.judging.Heard.TheVariants as heard
 use Rattle.shutoff_filter.specs.Body.{shutoff_text_of}
 use Rattle.aip_rules.specs.declared.Arming.{Arming}
 use Rattle.aip_rules.specs.declared.Reaction.{Reaction}
 use Rattle.aip_rules.specs.Standing.{Standing}
-use Rattle.aip_rules.specs.Nodes.{is_same_address}
 use Rattle.aip_rules.specs.Reaction.{dropped, happens}
 use Rattle.aip_rules.specs.Host.{withheld_key, handed_to, handed_down, put_by, Signing, Dry, Stops, Signs, signing, signed, answer_frame, shutoff_frame, shut_by, answered, challenged, hearing, outlasts, obeyed_by, heard_by, kind_at_host, taken_at_host, at_host, kept_events, back_up}
 use Rattle.aip_rules.proofs.JustifiedBacked.{AreQuiet}

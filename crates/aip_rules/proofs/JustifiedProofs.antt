@@ -3,7 +3,7 @@ use Rattle.std.proofs.Common.{◌≡◌, ℕ, ◌+◌, ◌==◌, ◌||◌, Bool,
 use Rattle.std.proofs.lemmas.Bool.{and_parts, eqb-true, ltb-false, leb-false}
 use Rattle.std.specs.Cmp.Lexicographic.{bytes_decides}
 use Rattle.std.specs.Prelude.{nat_lt, nat_le}
-use Rattle.aip_addr.specs.Ids.{is_owner, Owns}
+use Rattle.aip_addr.specs.Ids.{is_owner, Owns, is_same_address}
 use Rattle.aip_addr.specs.declared.ids.Address.{Address}
 use Rattle.aip_frame.specs.declared.frame.Frame.{Frame}
 use Rattle.aip_mac.specs.Hmac.{hmac_of, secret_of}
@@ -13,7 +13,7 @@ use Rattle.lms_core.specs.Verify.{is_valid_signature}
 use Rattle.verify_packet.specs.declared.challenges.RouterKey.{RouterKey}
 use Rattle.verify_packet.specs.declared.responses.Checked.TheVariants as checked
 use Rattle.verify_packet.specs.Challenge.{Asked, asked_in, epoch_at, tag_of}
-use Rattle.verify_packet.specs.Response.{challenge_in, has_tag, is_same_address, is_asked, is_current, key_in, response_text_of, response_verdict, signature_in}
+use Rattle.verify_packet.specs.Response.{challenge_in, has_tag, is_asked, is_current, key_in, response_text_of, response_verdict, signature_in}
 use Rattle.aip_rules.specs.declared.Entry.{Entry}
 use Rattle.aip_rules.specs.Nodes.{neighbours_of}
 use Rattle.aip_rules.specs.Router.{router_key}

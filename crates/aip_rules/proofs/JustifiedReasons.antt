@@ -1,5 +1,5 @@
 -- Why a verdict may be to forward, and what the tests of kinds, addresses and names say.
-use Rattle.std.proofs.Common.{◌≡◌, ℕ, Bool, true, false, cond, List, Option, Some, None, refl, sym, ap, subst, ◌∙◌, true≢false, get_or}
+use Rattle.std.proofs.Common.{◌≡◌, ℕ, Bool, true, false, cond, not, List, Option, Some, None, refl, sym, ap, subst, ◌∙◌, true≢false, get_or}
 use Rattle.std.proofs.lemmas.List.Quantifiers.{position-Some}
 use Rattle.std.proofs.lemmas.Option.{get_or_from_slice_get}
 use Rattle.std.proofs.lemmas.Slice.Eq.{bytes_eq-Decides}
@@ -10,6 +10,7 @@ use Rattle.aip_addr.specs.declared.ids.Address.{Address}
 use Rattle.aip_frame.specs.declared.frame.Kind.{Kind}
 use Rattle.aip_frame.specs.declared.frame.Kind.TheVariants.{Data, Challenge, Response, ShutOff}
 use Rattle.aip_event.specs.declared.event.Cause.{Cause}
+use Rattle.accept_cache.specs.Keys.{same_id}
 use Rattle.first_hop.specs.Verdict.{host_verdict}
 use Rattle.border_check.specs.Verdict.{port_verdict, leads_back}
 use Rattle.aip_registry.specs.declared.records.Record.{Record}
@@ -19,9 +20,11 @@ use Rattle.aip_rules.specs.declared.Entry.{Entry}
 use Rattle.aip_rules.specs.declared.Neighbour.{Neighbour}
 use Rattle.aip_rules.specs.declared.Neighbour.TheVariants as neighbour
 use Rattle.aip_rules.specs.declared.Reaction.{Reaction}
-use Rattle.aip_rules.specs.Nodes.{router_named, is_same_address}
+use Rattle.aip_rules.specs.declared.Verdict.TheVariants.{Forwards}
+use Rattle.aip_addr.specs.Ids.{is_same_address}
+use Rattle.aip_rules.specs.Nodes.{place_of_router}
 use Rattle.aip_rules.specs.Records.{trusts}
-use Rattle.aip_rules.specs.Router.{Arrival, Forwards, of_host, of_border, verdict_by, is_challenge, is_response}
+use Rattle.aip_rules.specs.Router.{Arrival, SourceKnown, of_host, of_border, verdict_by, is_challenge, is_response}
 use Rattle.aip_rules.specs.Promises.{IsLink}
 use Rattle.aip_rules.proofs.JustifiedBacked.{IsRouterNamed, Follow}
 
@@ -34,41 +37,44 @@ PassesTrust topo kept now self (Some (neighbour.Host name)) = ⊥
 PassesTrust topo kept now self (Some (neighbour.Link other far marked)) = trusts topo kept now self other marked ≡ true
 
 -- why a verdict may be to forward, by what lies at the port
-pub data Reasons (topo : Topology) (kept : List Record) (now : ℕ) (self : Router) (at : Option Neighbour) (back : Option ℕ) (port : ℕ) (fresh wild : Bool) : Type 0 where
-  Trusted : PassesTrust topo kept now self at → Reasons topo kept now self at back port fresh wild
-  Reverse : IsLink at → back ≡ Some port → Reasons topo kept now self at back port fresh wild
-  Fresh : fresh ≡ true → Reasons topo kept now self at back port fresh wild
-  FreshDomain : IsLink at → wild ≡ true → Reasons topo kept now self at back port fresh wild
+pub data Reasons (topo : Topology) (kept : List Record) (now : ℕ) (self : Router) (at : Option Neighbour) (port : ℕ) (source : SourceKnown) : Type 0 where
+  Trusted : PassesTrust topo kept now self at → Reasons topo kept now self at port source
+  Reverse : IsLink at → source.back ≡ Some port → Reasons topo kept now self at port source
+  Fresh : source.fresh ≡ true → Reasons topo kept now self at port source
+  FreshDomain : IsLink at → source.wild ≡ true → Reasons topo kept now self at port source
 
-at_host_port : (topo : Topology) (kept : List Record) (now : ℕ) (at : Arrival) (name : List ℕ) (back : Option ℕ) (foreign fresh wild : Bool) (why : Cause)
-    → of_host at.port (host_verdict foreign fresh) ≡ Forwards why → Reasons topo kept now at.self (Some (neighbour.Host name)) back at.port fresh wild
-at_host_port topo kept now at name back true fresh wild why e = absurd cc
-at_host_port topo kept now at name back false true wild why e = Fresh refl
-at_host_port topo kept now at name back false false wild why e = absurd cc
+at_host_port : (topo : Topology) (kept : List Record) (now : ℕ) (at : Arrival) (name : List ℕ) (source : SourceKnown) (foreign fresh : Bool) (why : Cause)
+    → (fresh ≡ true → source.fresh ≡ true)
+    → of_host at.port (host_verdict foreign fresh) ≡ Forwards why → Reasons topo kept now at.self (Some (neighbour.Host name)) at.port source
+at_host_port topo kept now at name source true fresh why f e = absurd cc
+at_host_port topo kept now at name source false true why f e = Fresh (f refl)
+at_host_port topo kept now at name source false false why f e = absurd cc
 
 -- where a port leads back, it is the port towards the source
 led_back : (back : Option ℕ) (port : ℕ) → leads_back back port ≡ true → back ≡ Some port
 led_back None port t = absurd (true≢false (sym t))
 led_back (Some back) port t = ap Some ((unsigned_Decides back port).0 t)
 
-at_link_port : (topo : Topology) (kept : List Record) (now : ℕ) (at : Arrival) (other far : ℕ) (marked : Bool) (back : Option ℕ) (trusted reverse fresh wild : Bool) (why : Cause)
-    → (trusted ≡ true → trusts topo kept now at.self other marked ≡ true) → (reverse ≡ true → back ≡ Some at.port)
-    → of_border back (port_verdict trusted reverse fresh wild) ≡ Forwards why
-    → Reasons topo kept now at.self (Some (neighbour.Link other far marked)) back at.port fresh wild
-at_link_port topo kept now at other far marked back true reverse fresh wild why t r e = Trusted (t refl)
-at_link_port topo kept now at other far marked back false true fresh wild why t r e = Reverse tt (r refl)
-at_link_port topo kept now at other far marked back false false true wild why t r e = Fresh refl
-at_link_port topo kept now at other far marked back false false false true why t r e = FreshDomain tt refl
-at_link_port topo kept now at other far marked back false false false false why t r e = absurd cc
+at_link_port : (topo : Topology) (kept : List Record) (now : ℕ) (at : Arrival) (other far : ℕ) (marked : Bool) (source : SourceKnown) (trusted reverse fresh wild : Bool) (why : Cause)
+    → (trusted ≡ true → trusts topo kept now at.self other marked ≡ true) → (reverse ≡ true → source.back ≡ Some at.port)
+    → (fresh ≡ true → source.fresh ≡ true) → (wild ≡ true → source.wild ≡ true)
+    → of_border source.back (port_verdict trusted reverse fresh wild) ≡ Forwards why
+    → Reasons topo kept now at.self (Some (neighbour.Link other far marked)) at.port source
+at_link_port topo kept now at other far marked source true reverse fresh wild why t r f w e = Trusted (t refl)
+at_link_port topo kept now at other far marked source false true fresh wild why t r f w e = Reverse tt (r refl)
+at_link_port topo kept now at other far marked source false false true wild why t r f w e = Fresh (f refl)
+at_link_port topo kept now at other far marked source false false false true why t r f w e = FreshDomain tt (w refl)
+at_link_port topo kept now at other far marked source false false false false why t r f w e = absurd cc
 
 -- a verdict to forward has one of the reasons
-pub reasoned : (topo : Topology) (kept : List Record) (now : ℕ) (at : Arrival) (there : Option Neighbour) (source : Address) (back : Option ℕ) (fresh wild : Bool) (why : Cause)
-    → verdict_by topo kept now at there source back fresh wild ≡ Forwards why → Reasons topo kept now at.self there back at.port fresh wild
-reasoned topo kept now at None source back fresh wild why e = absurd cc
-reasoned topo kept now at (Some (neighbour.Host name)) source back fresh wild why e = at_host_port topo kept now at name back _ fresh wild why e
-reasoned topo kept now at (Some (neighbour.Link other far marked)) source back fresh wild why e =
-    at_link_port topo kept now at other far marked back (trusts topo kept now at.self other marked) (leads_back back at.port) fresh wild why
-    (λ t. t) (led_back back at.port) e
+pub reasoned : (topo : Topology) (kept : List Record) (now : ℕ) (at : Arrival) (there : Option Neighbour) (source : SourceKnown) (why : Cause)
+    → verdict_by topo kept now at there source ≡ Forwards why → Reasons topo kept now at.self there at.port source
+reasoned topo kept now at None source why e = absurd cc
+reasoned topo kept now at (Some (neighbour.Host name)) source why e =
+    at_host_port topo kept now at name source (not (same_id source.address.ad at.self.address.ad)) source.fresh why (λ f. f) e
+reasoned topo kept now at (Some (neighbour.Link other far marked)) source why e =
+    at_link_port topo kept now at other far marked source (trusts topo kept now at.self other marked) (leads_back source.back at.port) source.fresh source.wild why
+    (λ t. t) (led_back source.back at.port) (λ f. f) (λ w. w) e
 
 -- ---- tests of kinds, addresses and names
 
@@ -91,7 +97,7 @@ same_addresses a b t =
     λ i. record { ad = record { bytes = ad i }; eid = record { bytes = eid i } }
 
 -- a router that is found by a name has it
-pub found_name : (routers : List Router) (name : List ℕ) (place : ℕ) (self : Router) → router_named routers name ≡ Some place → slice_get routers place ≡ Some self
+pub found_name : (routers : List Router) (name : List ℕ) (place : ℕ) (self : Router) → place_of_router routers name ≡ Some place → slice_get routers place ≡ Some self
     → name ≡ self.name
 found_name routers name place self named there =
     let passes = (position-Some (λ router. bytes_eq router.name name) routers place self named).1 in

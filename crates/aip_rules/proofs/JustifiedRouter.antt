@@ -16,7 +16,7 @@ use Rattle.aip_event.specs.declared.input.Input.TheVariants.{Deliver}
 use Rattle.aip_event.specs.declared.input.Target.TheVariants as target
 use Rattle.accept_cache.specs.Keys.{pair_of, wildcard_of}
 use Rattle.accept_cache.specs.Recency.{Proved}
-use Rattle.accept_cache.specs.Accepted.{is_fresh_pair, is_fresh_wildcard, fresh_sources, promotes}
+use Rattle.accept_cache.specs.Accepted.{is_fresh_wildcard, fresh_sources, promotes}
 use Rattle.verify_packet.specs.declared.responses.Checked.{Checked}
 use Rattle.verify_packet.specs.declared.responses.Checked.TheVariants as checked
 use Rattle.verify_packet.specs.Response.{response_verdict}
@@ -28,13 +28,16 @@ use Rattle.aip_rules.specs.declared.Entry.TheVariants.{Taken, Happened}
 use Rattle.aip_rules.specs.declared.Flight.{Flight}
 use Rattle.aip_rules.specs.declared.Neighbour.{Neighbour}
 use Rattle.aip_rules.specs.declared.Neighbour.TheVariants as neighbour
+use Rattle.aip_rules.specs.declared.Verdict.{Verdict}
+use Rattle.aip_rules.specs.declared.Verdict.TheVariants.{Forwards, Foreign, Asks}
 use Rattle.aip_rules.specs.State.{now_of, flight_at}
-use Rattle.aip_rules.specs.Nodes.{neighbour_at, is_same_address}
+use Rattle.aip_addr.specs.Ids.{is_same_address}
+use Rattle.aip_rules.specs.Nodes.{neighbour_at}
 use Rattle.aip_rules.specs.Routes.{port_to}
 use Rattle.aip_rules.specs.Reaction.{dropped}
 use Rattle.aip_rules.specs.Accepted.{limits_of, pair_uses, wildcard_uses}
 use Rattle.aip_rules.specs.Records.{records_kept, trusts}
-use Rattle.aip_rules.specs.Router.{Arrival, Verdict, Forwards, Foreign, Asks, router_key, forwarded, verdict_at, by_verdict, is_challenge, passed, is_link, makes_wildcard, responded, is_response, own_frame, frame_at_router, taken_at_router}
+use Rattle.aip_rules.specs.Router.{Arrival, source_known, router_key, forwarded, verdict_at, by_verdict, is_challenge, passed, is_link, makes_wildcard, responded, is_response, own_frame, frame_at_router, taken_at_router}
 use Rattle.aip_rules.specs.Promises.{IsAtRouter, IsProof, IsTrusted, Answered, ManyAnswered, Justified, ByTrust, ByReversePath, ByAnswer, ByWildcard}
 use Rattle.aip_rules.proofs.JustifiedBacked.{IsRouterNamed, ProofIsBacked, WildcardIsBacked, AreBacked, Follow}
 use Rattle.aip_rules.proofs.JustifiedProofs.{valid_response}
@@ -72,9 +75,7 @@ module _ (topo : Topology) (tr : List Entry) (number : ℕ) (flight : Flight) (a
       (subst (λ n. trusts topo (records_kept tr) n at.self other marked ≡ true) (sym (same_now tr number)) t)
 
   -- a reason to forward justifies it
-  just : Reasons topo (records_kept tr) (now_of tr) at.self (neighbour_at topo at.place at.port) (port_to topo tr at.place at.self frame.from) at.port
-      (is_fresh_pair (limits_of topo.settings) (pair_uses tr at.self.name) (now_of tr) (pair_of frame.from at.port))
-      (is_fresh_wildcard (limits_of topo.settings) (wildcard_uses tr at.self.name) (now_of tr) (wildcard_of frame.from.ad at.port)) → IsJust
+  just : Reasons topo (records_kept tr) (now_of tr) at.self (neighbour_at topo at.place at.port) at.port (source_known topo tr at frame.from) → IsJust
   just (Trusted trusted) = ByTrust (trusted_so (neighbour_at topo at.place at.port) trusted)
   just (Reverse link back) = ByReversePath link back
   just (Fresh fresh) =
@@ -108,7 +109,7 @@ module _ (topo : Topology) (tr : List Entry) (number : ℕ) (flight : Flight) (a
 
   verdict_follows : (out : ℕ) (verdict : Verdict) → verdict_at topo tr at frame.from ≡ verdict
       → Follow topo (delivering tr number) (by_verdict topo (router_key topo tr at.place at.self) (now_of tr) at frame out verdict).events
-  verdict_follows out (Forwards why) e = forwards out why (λ checking kind. just (reasoned topo (records_kept tr) (now_of tr) at _ frame.from _ _ _ why e))
+  verdict_follows out (Forwards why) e = forwards out why (λ checking kind. just (reasoned topo (records_kept tr) (now_of tr) at _ (source_known topo tr at frame.from) why e))
   verdict_follows out Foreign e = (tt, tt)
   verdict_follows out (Asks None) e = (tt, tt)
   verdict_follows out (Asks (Some back)) e = (tt, tt)

@@ -6,6 +6,7 @@ pub mod PutsHost
 pub mod PutsRouter
 pub mod Puts
 pub mod Lines
+pub mod StepTexts
 pub mod OfRuns
 pub mod SilentEvents
 pub mod SilentHosts

@@ -9,7 +9,7 @@ use Rattle.aip_rules.specs.declared.Entry.{Entry}
 use Rattle.aip_rules.specs.declared.StepFault.{StepFault}
 use Rattle.aip_rules.specs.declared.StepFault.TheVariants as fault
 use Rattle.aip_rules.specs.Step.{step_of, after_step, trace_from, goes_on}
-use Rattle.aip_rules.specs.Texts.{Ending, Done, Topology_refused, Schedule_refused, Ran, scheduled, input_or_form, by_step, by_line, ran_from, lines_before, inputs_in_line, inputs_in, IsTraceOfLines}
+use Rattle.aip_rules.specs.Texts.{Ending, Done, Topology_refused, Schedule_refused, EndedRun, scheduled, input_or_form, by_step, by_line, ran_from, lines_before, inputs_in_line, inputs_in, IsTraceOfLines}
 
 -- the run ends at a line from this one on, or at none
 abbrev pub EndsFrom : ℕ → Ending → Type 0
@@ -18,7 +18,7 @@ EndsFrom number (Schedule_refused line f) = number ≤ line
 EndsFrom number (Topology_refused line f) = ⊥
 
 -- a run from a trace on over these lines: it ends at one of them or at none, and its trace is that of their inputs
-pub record IsOfLines (topo : Topology) (tr : List Entry) (number : ℕ) (lines : List (List ℕ)) (r : Ran) : Type 0 where
+pub record IsOfLines (topo : Topology) (tr : List Entry) (number : ℕ) (lines : List (List ℕ)) (r : EndedRun) : Type 0 where
   pub ends : EndsFrom number r.ending
   pub trace : trace_from topo tr (inputs_in (lines_before number r.ending lines)) ≡ Some r.trace
 
@@ -50,7 +50,7 @@ abbrev pub inputs_at : List ℕ → List Input
 inputs_at line = cond (is_skipped line) [] (inputs_in_line (input_of line))
 
 -- a run over a line and more, where the inputs of the line lead from one trace to the other
-with_line : (topo : Topology) (tr after : List Entry) (number : ℕ) (line : List ℕ) (lines : List (List ℕ)) (r : Ran)
+with_line : (topo : Topology) (tr after : List Entry) (number : ℕ) (line : List ℕ) (lines : List (List ℕ)) (r : EndedRun)
     → ((rest : List Input) → trace_from topo tr (inputs_at line ++ rest) ≡ trace_from topo after rest)
     → IsOfLines topo after (number + 1) lines r → IsOfLines topo tr number (line ∷ lines) r
 with_line topo tr after number line lines r goes h = record {
@@ -96,10 +96,10 @@ goes_past topo tr line skipped rest =
     ap (λ b. trace_from topo tr (cond b [] (inputs_in_line (input_of line)) ++ rest)) skipped
 
 -- the run of the lines that are left
-abbrev pub left : Topology → ℕ → List (List ℕ) → List Entry → Ran
+abbrev pub left : Topology → ℕ → List (List ℕ) → List Entry → EndedRun
 left topo number lines after = ran_from topo after (number + 1) lines
 
-module _ (topo : Topology) (tr : List Entry) (number : ℕ) (line : List ℕ) (lines : List (List ℕ)) (go : List Entry → Ran) (more : (after : List Entry) → IsOfLines topo after (number + 1) lines (go after)) where
+module _ (topo : Topology) (tr : List Entry) (number : ℕ) (line : List ℕ) (lines : List (List ℕ)) (go : List Entry → EndedRun) (more : (after : List Entry) → IsOfLines topo after (number + 1) lines (go after)) where
   by_taken : (input : Input) → is_skipped line ≡ false → input_of line ≡ Some input → (step : Result (List Event) StepFault) → step_of topo tr input ≡ step
       → IsOfLines topo tr number (line ∷ lines) (by_step tr number input go step)
   by_taken input shown read (Ok events) e =

@@ -14,12 +14,12 @@ use Rattle.aip_registry.specs.Record.{fields_in}
 use Rattle.aip_registry.specs.Kept.{after, kept_records, publication}
 use Rattle.aip_rules.specs.declared.Entry.{Entry}
 use Rattle.aip_rules.specs.declared.Entry.TheVariants.{Taken, Happened}
-use Rattle.aip_rules.specs.Records.{kept_event, publication_event, published_by, published_on, records_kept}
+use Rattle.aip_rules.specs.Records.{kept_record_event, publication_event, published_by, published_on, records_kept}
 use Rattle.aip_rules.specs.Step.{after_step, with_events}
 
 -- what holds of every event that a publication may have holds of the one that it has
 module _ (P : Event → Type 0) (peer : (ad other : Id) (number until : ℕ) → P (PublishedPeer ad other number until)) (bind : (ad other : Id) (number until : ℕ) → P (PublishedBind ad other number until)) (refused : (number : ℕ) → P (Unpublished number)) where
-  of_kept : (kind : RecordKind) (r : Record) → P (kept_event kind r)
+  of_kept : (kind : RecordKind) (r : Record) → P (kept_record_event kind r)
   of_kept Peer r = peer r.ad r.other r.number r.until
   of_kept Bind r = bind r.ad r.other r.number r.until
 

@@ -19,12 +19,12 @@ use Rattle.aip_rules.specs.declared.Flight.{Flight}
 use Rattle.aip_rules.specs.declared.Seat.{Seat}
 use Rattle.aip_rules.specs.declared.StepFault.TheVariants as fault
 use Rattle.aip_rules.specs.State.{flight_at, now_of, input_count, frame_in}
-use Rattle.aip_rules.specs.Nodes.{seats_of, seat_named, router_named, address_named, neighbours_of, links_of, key_named}
+use Rattle.aip_rules.specs.Nodes.{seats_of, seat_named, place_of_router, address_named, neighbours_of, links_of, key_named}
 use Rattle.aip_rules.specs.Reaction.{nothing}
 use Rattle.aip_rules.specs.Records.{publishes, records_kept}
 use Rattle.aip_rules.specs.Standing.{standing}
 use Rattle.aip_rules.specs.Host.{sent_frame}
-use Rattle.aip_rules.specs.Step.{most_bytes, most_inputs, can_be_put, sent, put_raw, arrives_at_router, arrives_at_port, arrives_at_seat, arrives, delivered, injected_at_port, injected_at_host, injected, relinked, shut_with, shut_named, shut_off, restarted, has_key, stop_armed, halt_armed, published, outcome_of, reaction_of}
+use Rattle.aip_rules.specs.Step.{most_bytes, most_inputs, can_be_put, sent, put_raw, arrives_at_router, arrives_at_port, arrives_at_seat, arrives, delivered, injected_at_port, injected_at_host, injected, relinked, shut_with, shut_named, shut_off, restarted, has_key, armed_with_stop, armed_with_halt, published, outcome_of, reaction_of}
 use Rattle.aip_rules.specs.Laws.{InputsPutAtMostOne}
 use Rattle.aip_rules.proofs.Sizes.{IsSizedAddress, HasSizedAddress, HasSized, seat_sized, address_sized, router_at_sized, fitting_short}
 use Rattle.aip_rules.proofs.Publications.{of_publication}
@@ -46,7 +46,7 @@ seat_modest topo tr (Some seat) bytes s = at_host_modest (standing topo tr seat)
 
 -- what happens where bytes arrive at a target
 pub arrives_modest : (topo : Topology) (tr : List Entry) (to : Target) (bytes : List ℕ) → IsSound topo → IsModest (arrives topo tr to bytes)
-arrives_modest topo tr (target.Port name port) bytes sound = port_modest topo tr (router_named topo.routers name) port bytes sound
+arrives_modest topo tr (target.Port name port) bytes sound = port_modest topo tr (place_of_router topo.routers name) port bytes sound
 arrives_modest topo tr (target.Host name) bytes sound = seat_modest topo tr (seat_named (seats_of topo) name) bytes (seat_sized topo name sound)
 
 -- bytes that can be put are short
@@ -102,7 +102,7 @@ injected_host_modest (Some seat) to bytes =
     where_allowed (can_be_put (length bytes)) fault.Range _ (λ e. puts_modest to bytes (short_put (length bytes) e))
 
 pub injected_modest : (topo : Topology) (to : Target) (bytes : List ℕ) → IsModestOutcome (injected topo to bytes)
-injected_modest topo (target.Port name port) bytes = injected_port_modest topo (router_named topo.routers name) _ port bytes
+injected_modest topo (target.Port name port) bytes = injected_port_modest topo (place_of_router topo.routers name) _ port bytes
 injected_modest topo (target.Host name) bytes = injected_host_modest (seat_named (seats_of topo) name) _ bytes
 
 relinked_modest : (topo : Topology) (link : ℕ) → IsModestOutcome (relinked topo link)
@@ -135,13 +135,13 @@ restarted_modest topo tr (Some seat) router = back_up_modest (standing topo tr s
 restarted_modest topo tr None (Some router) = nothing_modest
 restarted_modest topo tr None None = tt
 
-armed_modest : (topo : Topology) (seat : Option Seat) (call byte : ℕ) → IsModestOutcome (stop_armed topo seat call byte)
+armed_modest : (topo : Topology) (seat : Option Seat) (call byte : ℕ) → IsModestOutcome (armed_with_stop topo seat call byte)
 armed_modest topo None call byte = tt
 armed_modest topo (Some seat) call byte =
     unless ((call == 0) || (nat_lt 2 call || nat_le 256 byte)) fault.Range _
     (λ e. where_allowed (has_key (key_named topo.parts seat.name)) fault.Keyless (Ok nothing) (λ e. nothing_modest))
 
-halt_modest : (seat : Option Seat) (call byte : ℕ) → IsModestOutcome (halt_armed seat call byte)
+halt_modest : (seat : Option Seat) (call byte : ℕ) → IsModestOutcome (armed_with_halt seat call byte)
 halt_modest None call byte = tt
 halt_modest (Some seat) call byte =
     unless ((call == 0) || (nat_lt 4 call || nat_le 256 byte)) fault.Range (Ok nothing) (λ e. nothing_modest)
@@ -163,7 +163,7 @@ outcome_modest topo tr (Cut link) sound = relinked_modest topo link
 outcome_modest topo tr (Mend link) sound = relinked_modest topo link
 outcome_modest topo tr (Shutoff host flight ttl) sound =
     shut_modest topo tr (seat_named (seats_of topo) host) (flight_at tr flight) ttl (seat_sized topo host sound)
-outcome_modest topo tr (Restart node) sound = restarted_modest topo tr (seat_named (seats_of topo) node) (router_named topo.routers node)
+outcome_modest topo tr (Restart node) sound = restarted_modest topo tr (seat_named (seats_of topo) node) (place_of_router topo.routers node)
 outcome_modest topo tr (Stop host call byte) sound = armed_modest topo (seat_named (seats_of topo) host) call byte
 outcome_modest topo tr (Halt host call byte) sound = halt_modest (seat_named (seats_of topo) host) call byte
 outcome_modest topo tr (Publish bytes) sound = published_modest tr bytes

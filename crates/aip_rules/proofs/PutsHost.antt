@@ -1,7 +1,7 @@
 -- What a host does is modest: it puts at most one flight, of at most 9,216 bytes.
 use Rattle.std.proofs.Common.{◌≡◌, ℕ, ◌≤◌, true, false, cond, not, List, [], ◌∷◌, length, Option, Some, None, refl}
 use Rattle.std.specs.Prelude.{IfSome}
-use Rattle.aip_addr.specs.Ids.{key_id_of}
+use Rattle.aip_addr.specs.Ids.{key_id_of, is_same_address}
 use Rattle.aip_addr.specs.declared.ids.KeyId.{KeyId}
 use Rattle.aip_frame.specs.declared.frame.Frame.{Frame}
 use Rattle.aip_frame.specs.declared.frame.Kind.{Kind}
@@ -15,11 +15,10 @@ use Rattle.sent_log.specs.Log.{is_logged_at_all}
 use Rattle.verify_packet.specs.Challenge.{Asked, asked_in}
 use Rattle.verify_packet.specs.Response.{response_text_of}
 use Rattle.shutoff_filter.specs.Body.{shutoff_text_of}
-use Rattle.shutoff_filter.specs.declared.entries.Entry.{Entry as ShutOffEntry}
+use Rattle.shutoff_filter.specs.declared.entries.ShutOffEntry.{ShutOffEntry as ShutOffEntry}
 use Rattle.shutoff_filter.specs.declared.judging.Heard.{Heard}
 use Rattle.shutoff_filter.specs.declared.judging.Heard.TheVariants as heard
 use Rattle.aip_rules.specs.declared.Arming.{Arming}
-use Rattle.aip_rules.specs.Nodes.{is_same_address}
 use Rattle.aip_rules.specs.Reaction.{dropped, happens}
 use Rattle.aip_rules.specs.Standing.{Standing}
 use Rattle.aip_rules.specs.Host.{withheld_key, handed_to, handed_down, put_by, Signing, Dry, Stops, Signs, signing, signed, answer_frame, shutoff_frame, shut_by, answered, challenged, hearing, outlasts, obeyed_by, heard_by, kind_at_host, taken_at_host, at_host, kept_events, back_up}

@@ -15,11 +15,13 @@ use Rattle.verify_packet.specs.declared.responses.Checked.{Checked}
 use Rattle.verify_packet.specs.declared.responses.Checked.TheVariants as checked
 use Rattle.verify_packet.specs.Response.{response_verdict}
 use Rattle.aip_rules.specs.declared.Entry.{Entry}
+use Rattle.aip_rules.specs.declared.Verdict.{Verdict}
+use Rattle.aip_rules.specs.declared.Verdict.TheVariants.{Forwards, Foreign, Asks}
 use Rattle.aip_rules.specs.State.{now_of}
-use Rattle.aip_rules.specs.Nodes.{is_same_address}
+use Rattle.aip_addr.specs.Ids.{is_same_address}
 use Rattle.aip_rules.specs.Reaction.{dropped}
 use Rattle.aip_rules.specs.Routes.{port_to}
-use Rattle.aip_rules.specs.Router.{Arrival, router_key, one_hop_less, forwarded, asked, Verdict, Forwards, Foreign, Asks, verdict_at, by_verdict, is_challenge, checked_frame, passed, makes_wildcard, proved, responded, is_response, own_frame, frame_at_router, taken_at_router, at_router}
+use Rattle.aip_rules.specs.Router.{Arrival, router_key, one_hop_less, forwarded, asked, verdict_at, by_verdict, is_challenge, checked_frame, passed, makes_wildcard, proved, responded, is_response, own_frame, frame_at_router, taken_at_router, at_router}
 use Rattle.aip_rules.proofs.Sizes.{HasSized, IsSizedAddress, fitting_short}
 use Rattle.aip_rules.proofs.Signed.{challenge_short}
 use Rattle.aip_rules.proofs.Modest.{IsModest, dropped_modest, either}

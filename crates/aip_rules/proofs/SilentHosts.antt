@@ -1,7 +1,7 @@
 -- How what a host does comes about: it hands bytes down, it signs, it is told a shut-off, or it does nothing of these.
 use Rattle.std.proofs.Common.{◌≡◌, ℕ, ◌==◌, cond, not, List, [], ◌∷◌, Option, Some, None, refl}
 use Rattle.std.proofs.lemmas.Bool.{cond_both}
-use Rattle.aip_addr.specs.Ids.{key_id_of}
+use Rattle.aip_addr.specs.Ids.{key_id_of, is_same_address}
 use Rattle.aip_frame.specs.declared.frame.Frame.{Frame}
 use Rattle.aip_frame.specs.declared.frame.Kind.{Kind}
 use Rattle.aip_frame.specs.declared.frame.Kind.TheVariants.{Data, Challenge, Response, ShutOff}
@@ -16,12 +16,11 @@ use Rattle.sent_log.specs.Log.{is_logged_at_all}
 use Rattle.verify_packet.specs.Challenge.{Asked, asked_in}
 use Rattle.verify_packet.specs.Response.{response_text_of}
 use Rattle.shutoff_filter.specs.Body.{shutoff_text_of}
-use Rattle.shutoff_filter.specs.declared.entries.Entry.{Entry as ShutOffEntry}
+use Rattle.shutoff_filter.specs.declared.entries.ShutOffEntry.{ShutOffEntry as ShutOffEntry}
 use Rattle.shutoff_filter.specs.declared.judging.Heard.{Heard}
 use Rattle.shutoff_filter.specs.declared.judging.Heard.TheVariants as heard
 use Rattle.aip_rules.specs.declared.Arming.{Arming}
 use Rattle.aip_rules.specs.declared.Reaction.{Reaction}
-use Rattle.aip_rules.specs.Nodes.{is_same_address}
 use Rattle.aip_rules.specs.Reaction.{dropped, happens, behind}
 use Rattle.aip_rules.specs.Standing.{Standing}
 use Rattle.aip_rules.specs.Host.{handed_down, put_by, Signing, Dry, signing_with, signing, signed, answer_frame, shutoff_frame, shut_by, answered, challenged, hearing, outlasts, obeyed_by, heard_by, kind_at_host, taken_at_host, at_host, kept_events, back_up}

@@ -26,11 +26,11 @@ use Rattle.aip_rules.specs.declared.Seat.{Seat}
 use Rattle.aip_rules.specs.declared.StepFault.{StepFault}
 use Rattle.aip_rules.specs.declared.StepFault.TheVariants as fault
 use Rattle.aip_rules.specs.State.{ticks_of, is_restart_of, flight_at, now_of, delivered_by, frame_in}
-use Rattle.aip_rules.specs.Nodes.{seats_of, seat_named, router_named, address_named, neighbours_of, links_of, key_named}
+use Rattle.aip_rules.specs.Nodes.{seats_of, seat_named, place_of_router, address_named, neighbours_of, links_of, key_named}
 use Rattle.aip_rules.specs.Reaction.{nothing, happens, puts, behind}
 use Rattle.aip_rules.specs.Standing.{standing, lets_act, reaches_host, is_host_target, next_leaf}
 use Rattle.aip_rules.specs.Host.{hearing, handed_down, sent_frame, put_by, shut_by, at_host, back_up}
-use Rattle.aip_rules.specs.Step.{most_bytes, can_be_put, sent, put_raw, arrives_at_router, arrives_at_port, arrives_at_seat, arrives, delivered, injected_at_port, injected_at_host, injected, shut_with, shut_named, shut_off, restarted, has_key, stop_armed, halt_armed, published, outcome_of}
+use Rattle.aip_rules.specs.Step.{most_bytes, can_be_put, sent, put_raw, arrives_at_router, arrives_at_port, arrives_at_seat, arrives, delivered, injected_at_port, injected_at_host, injected, shut_with, shut_named, shut_off, restarted, has_key, armed_with_stop, armed_with_halt, published, outcome_of}
 use Rattle.aip_rules.specs.Records.{publishes, records_kept}
 use Rattle.aip_rules.proofs.Publications.{of_publication}
 use Rattle.aip_rules.proofs.SilentEvents.{IsPlain, ArePlain, unless_refused, where_taken}
@@ -146,7 +146,7 @@ module _ (topo : Topology) (tr : List Entry) (input : Input) where
   injected_host_comes (Some seat) to bytes none = where_taken (Comes topo tr input) (can_be_put (length bytes)) fault.Range _ (outside to bytes none)
 
   injected_comes : (to : Target) (bytes : List ℕ) → IsOfNoHost tr input → IsCome (injected topo to bytes)
-  injected_comes (target.Port name port) bytes none = injected_port_comes (router_named topo.routers name) (target.Port name port) port bytes none
+  injected_comes (target.Port name port) bytes none = injected_port_comes (place_of_router topo.routers name) (target.Port name port) port bytes none
   injected_comes (target.Host name) bytes none = injected_host_comes (seat_named (seats_of topo) name) (target.Host name) bytes none
 
   with_comes : (seat : Seat) (named : Frame) (ttl : ℕ) (key : Option Key) → key_named topo.parts seat.name ≡ key → IsBy tr input seat → IsCome (shut_with topo tr seat named ttl key)
@@ -173,13 +173,13 @@ module _ (topo : Topology) (tr : List Entry) (input : Input) where
   allowed_comes : (test : Bool) (f : StepFault) → IsCome (cond test (Ok nothing) (Err f))
   allowed_comes test f = where_taken (Comes topo tr input) test f (Ok nothing) nothing_comes
 
-  stop_comes : (seat : Option Seat) (call byte : ℕ) → IsCome (stop_armed topo seat call byte)
+  stop_comes : (seat : Option Seat) (call byte : ℕ) → IsCome (armed_with_stop topo seat call byte)
   stop_comes None call byte = tt
   stop_comes (Some seat) call byte =
       unless_refused (Comes topo tr input) ((call == 0) || (nat_lt 2 call || nat_le 256 byte)) fault.Range _
       (allowed_comes (has_key (key_named topo.parts seat.name)) fault.Keyless)
 
-  halt_comes : (seat : Option Seat) (call byte : ℕ) → IsCome (halt_armed seat call byte)
+  halt_comes : (seat : Option Seat) (call byte : ℕ) → IsCome (armed_with_halt seat call byte)
   halt_comes None call byte = tt
   halt_comes (Some seat) call byte = quiet_comes ((call == 0) || (nat_lt 4 call || nat_le 256 byte)) fault.Range
 
@@ -195,7 +195,7 @@ module _ (topo : Topology) (tr : List Entry) where
   target_comes k flight (target.Port name port) is there =
       ByOther (arrives topo tr (target.Port name port) flight.bytes)
       (λ host. ap (λ o. reaches_host o host) is ∙ ap (λ t. is_host_target t host) there)
-      (port_comes topo tr (Deliver k) (router_named topo.routers name) port flight.bytes)
+      (port_comes topo tr (Deliver k) (place_of_router topo.routers name) port flight.bytes)
   target_comes k flight (target.Host name) is there =
       seat_comes topo tr (Deliver k) (seat_named (seats_of topo) name) flight is
       (found_named (λ seat. IsBy tr (Deliver k) seat × (is_host_target flight.target seat.name ≡ true)) name (seats_of topo)
@@ -231,7 +231,7 @@ module _ (topo : Topology) (tr : List Entry) where
   outcome_comes (Mend link) = allowed_comes topo tr (Mend link) (nat_lt link (length (links_of topo))) fault.Range
   outcome_comes (Shutoff host flight ttl) =
       shut_off_comes topo tr (Shutoff host flight ttl) (seat_named (seats_of topo) host) (flight_at tr flight) ttl (named_by (Shutoff host flight ttl) host (λ name. refl) refl (λ name. refl))
-  outcome_comes (Restart node) = restart_comes topo tr (Restart node) (seat_named (seats_of topo) node) (router_named topo.routers node)
+  outcome_comes (Restart node) = restart_comes topo tr (Restart node) (seat_named (seats_of topo) node) (place_of_router topo.routers node)
   outcome_comes (Stop host call byte) = stop_comes topo tr (Stop host call byte) (seat_named (seats_of topo) host) call byte
   outcome_comes (Halt host call byte) = halt_comes topo tr (Halt host call byte) (seat_named (seats_of topo) host) call byte
   outcome_comes (Publish bytes) = published_comes topo tr (Publish bytes) bytes

@@ -23,11 +23,12 @@ use Rattle.aip_topo.specs.declared.topology.Topology.{Topology}
 use Rattle.border_check.specs.Verdict.{port_verdict, leads_back}
 use Rattle.aip_rules.specs.declared.Entry.{Entry}
 use Rattle.aip_rules.specs.declared.Neighbour.{Neighbour}
+use Rattle.aip_rules.specs.declared.Verdict.TheVariants.{Forwards}
 use Rattle.aip_rules.specs.State.{now_of}
 use Rattle.aip_rules.specs.Routes.{port_to}
 use Rattle.aip_rules.specs.Accepted.{limits_of, pair_uses, wildcard_uses}
 use Rattle.aip_rules.specs.Records.{is_ahead, peered_until, published_on, records_kept, trusts_domain, trusts_router, trusts}
-use Rattle.aip_rules.specs.Router.{Arrival, Forwards, of_border, verdict_at, verdict_by}
+use Rattle.aip_rules.specs.Router.{Arrival, of_border, source_known, verdict_at, verdict_by}
 use Rattle.aip_rules.specs.Laws.{IsPeeringKept, AreNeighbours, IsTrustedAt, TrustsRightly, NeighboursAreTrustedRightly}
 use Rattle.aip_rules.specs.Promises.{HasPeer, HasTrustedEnd}
 use Rattle.aip_rules.proofs.Peerings.{IsAtMost, IsBelow, newest_peering, found_newest, newest_found}
@@ -209,7 +210,7 @@ module _ (topo : Topology) (sound : IsSound topo) (tr : List Entry) (at : Arriva
       let wild = is_fresh_wildcard (limits_of topo.settings) (wildcard_uses tr at.self.name) (now_of tr) (wildcard_of source.ad at.port) in
       let trusted = trusts_domain (records_kept tr) (now_of tr) at.self.address.ad neighbour.address.ad marked in
       let same : verdict_at topo tr at source ≡ of_border back (port_verdict trusted (leads_back back at.port) fresh wild) =
-      ap (λ (o : Option Neighbour). verdict_by topo (records_kept tr) (now_of tr) at o source back fresh wild) near.link
+      ap (λ (o : Option Neighbour). verdict_by topo (records_kept tr) (now_of tr) at o (source_known topo tr at source)) near.link
       ∙ ap (λ (o : Option Router). of_border back (port_verdict (trusts_router (records_kept tr) (now_of tr) at.self.address.ad o marked) (leads_back back at.port) fresh wild)) near.there in
       let is = for_trust trusted (leads_back back at.port) fresh wild back in
       (λ e. is.0 (sym same ∙ e), λ t. same ∙ is.1 t)

@@ -1,6 +1,6 @@
 -- What happens at a host: what it hands down, what it signs, and where a flight arrives at it.
 use Rattle.std.specs.Prelude.{ℕ, ◌-◌, ◌==◌, ◌&&◌, Bool, not, if◌then◌else◌, nat_le, List, [], length, map, filter, Option, Some, None}
-use Rattle.aip_addr.specs.Ids.{key_id_of}
+use Rattle.aip_addr.specs.Ids.{key_id_of, is_same_address}
 use Rattle.aip_addr.specs.declared.ids.Address.{Address}
 use Rattle.aip_addr.specs.declared.ids.KeyId.{KeyId}
 use Rattle.aip_frame.specs.declared.frame.Kind.{Kind}
@@ -18,13 +18,12 @@ use Rattle.verify_packet.specs.Response.{response_of, response_text_of}
 use Rattle.shutoff_filter.specs.Body.{order_in, shutoff_of, shutoff_text_of}
 use Rattle.shutoff_filter.specs.Entries.{is_key, is_withheld}
 use Rattle.shutoff_filter.specs.Judged.{shutoff_verdict, refusal_number}
-use Rattle.shutoff_filter.specs.declared.entries.Entry.{Entry as ShutOffEntry}
+use Rattle.shutoff_filter.specs.declared.entries.ShutOffEntry.{ShutOffEntry as ShutOffEntry}
 use Rattle.shutoff_filter.specs.declared.judging.Heard.{Heard}
 use Rattle.shutoff_filter.specs.declared.judging.Heard.TheVariants as heard
 use Rattle.aip_rules.specs.declared.Arming.{Arming}
 use Rattle.aip_rules.specs.declared.Reaction.{Reaction}
 use Rattle.aip_rules.specs.Standing.{Standing}
-use Rattle.aip_rules.specs.Nodes.{is_same_address}
 use Rattle.aip_rules.specs.Reaction.{behind, dropped, happens, puts}
 
 -- ---- handing down

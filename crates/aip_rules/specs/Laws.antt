@@ -14,10 +14,11 @@ use Rattle.aip_registry.specs.Kept.{kept_on}
 use Rattle.aip_rules.specs.declared.Entry.{Entry}
 use Rattle.aip_rules.specs.declared.Flight.{Flight}
 use Rattle.aip_rules.specs.declared.Neighbour.TheVariants.{Link}
+use Rattle.aip_rules.specs.declared.Verdict.TheVariants.{Forwards}
 use Rattle.aip_rules.specs.State.{flight_in, now_of}
 use Rattle.aip_rules.specs.Nodes.{neighbour_at}
 use Rattle.aip_rules.specs.Records.{records_kept}
-use Rattle.aip_rules.specs.Router.{Arrival, Forwards, verdict_at}
+use Rattle.aip_rules.specs.Router.{Arrival, verdict_at}
 use Rattle.aip_rules.specs.Promises.{HasPeer}
 use Rattle.aip_rules.specs.Step.{most_bytes, step_of}
 

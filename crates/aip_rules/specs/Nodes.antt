@@ -1,9 +1,10 @@
 -- Where the nodes of a topology stand: names, addresses, and what lies at each port. A router's ports are numbered from
 -- 0 in the order of the host and link lines that name it, so a port's number is how many of the router's ports the
 -- lines before it take.
-use Rattle.std.specs.Prelude.{ℕ, ◌+◌, ◌==◌, ◌&&◌, Bool, true, false, if◌then◌else◌, List, [], ◌∷◌, ◌++◌, find, position, slice_get, Option, Some, None}
+use Rattle.std.specs.Prelude.{ℕ, ◌+◌, ◌==◌, Bool, true, false, if◌then◌else◌, List, [], ◌∷◌, ◌++◌, find, position, slice_get, Option, Some, None}
 use Rattle.std.specs.Str.{bytes_eq}
 use Rattle.aip_addr.specs.declared.ids.Id.{Id}
+use Rattle.aip_addr.specs.Ids.{is_same_address}
 use Rattle.aip_addr.specs.declared.ids.Address.{Address}
 use Rattle.aip_event.specs.declared.input.Target.{Target}
 use Rattle.aip_event.specs.declared.input.Target.TheVariants as target
@@ -20,10 +21,6 @@ use Rattle.lms_core.specs.Tree.{Key as PrivateKey}
 use Rattle.aip_rules.specs.declared.Seat.{Seat}
 use Rattle.aip_rules.specs.declared.Neighbour.{Neighbour}
 use Rattle.aip_rules.specs.declared.Neighbour.TheVariants as neighbour
-
--- two addresses are the same
-abbrev pub is_same_address : Address → Address → Bool
-is_same_address a b = bytes_eq a.ad.bytes b.ad.bytes && bytes_eq a.eid.bytes b.eid.bytes
 
 -- one port, where the line names this router
 abbrev pub port_if : ℕ → ℕ → ℕ
@@ -110,8 +107,8 @@ abbrev pub is_guarded : List Part → List ℕ → Bool
 is_guarded parts name = is_guarded_host (host_named parts name)
 
 -- the place of the router of this name
-abbrev pub router_named : List Router → List ℕ → Option ℕ
-router_named routers name = position (λ router. bytes_eq router.name name) routers
+abbrev pub place_of_router : List Router → List ℕ → Option ℕ
+place_of_router routers name = position (λ router. bytes_eq router.name name) routers
 
 -- the place of the router with this address
 abbrev pub router_with_address : List Router → Address → Option ℕ

@@ -35,7 +35,7 @@ use Rattle.aip_rules.specs.declared.Flight.{Flight}
 use Rattle.aip_rules.specs.declared.Neighbour.{Neighbour}
 use Rattle.aip_rules.specs.declared.Neighbour.TheVariants as neighbour
 use Rattle.aip_rules.specs.State.{now_of, flight_at, is_restart_of, restarts_of, delivery, delivered_by}
-use Rattle.aip_rules.specs.Nodes.{neighbours_of, neighbour_at, router_named, key_named}
+use Rattle.aip_rules.specs.Nodes.{neighbours_of, neighbour_at, place_of_router, key_named}
 use Rattle.aip_rules.specs.Routes.{port_to}
 use Rattle.aip_rules.specs.Records.{published_on}
 use Rattle.aip_rules.specs.Standing.{frames_put}
@@ -181,7 +181,7 @@ pub record ForwardIsJustified (topo : Topology) (tr : List Entry) (name : List �
   pub delivered : delivery tr ≡ Some flight
   pub arrives : flight.target ≡ target.Port name port
   pub spelled : frame_of flight.bytes ≡ Some frame
-  pub justified : (place : ℕ) (self : Router) → router_named topo.routers name ≡ Some place → slice_get topo.routers place ≡ Some self
+  pub justified : (place : ℕ) (self : Router) → place_of_router topo.routers name ≡ Some place → slice_get topo.routers place ≡ Some self
       → self.checking ≡ true → frame.kind ≢ Challenge → Justified topo place self tr frame.from port
 
 -- if the event is a forward, it is justified

@@ -41,13 +41,13 @@ records_kept tr = kept_records (published_on tr)
 -- ---- a publication
 
 -- the event of a record that is kept from now on
-abbrev pub kept_event : RecordKind → Record → Event
-kept_event Peer r = event.PublishedPeer r.ad r.other r.number r.until
-kept_event Bind r = event.PublishedBind r.ad r.other r.number r.until
+abbrev pub kept_record_event : RecordKind → Record → Event
+kept_record_event Peer r = event.PublishedPeer r.ad r.other r.number r.until
+kept_record_event Bind r = event.PublishedBind r.ad r.other r.number r.until
 
 -- the event of a record of which this is said: it is kept from now on, or refused with the number of the reason
 abbrev pub publication_event : Record → Published → Event
-publication_event r said.Ok = kept_event r.kind r
+publication_event r said.Ok = kept_record_event r.kind r
 publication_event r said.Body = event.Unpublished (refusal_number said.Body)
 publication_event r said.Key = event.Unpublished (refusal_number said.Key)
 publication_event r said.Signature = event.Unpublished (refusal_number said.Signature)

@@ -30,8 +30,11 @@ use Rattle.aip_rules.specs.declared.Entry.TheVariants.{Happened}
 use Rattle.aip_rules.specs.declared.Neighbour.{Neighbour}
 use Rattle.aip_rules.specs.declared.Neighbour.TheVariants as neighbour
 use Rattle.aip_rules.specs.declared.Reaction.{Reaction}
+use Rattle.aip_rules.specs.declared.Verdict.{Verdict}
+use Rattle.aip_rules.specs.declared.Verdict.TheVariants.{Forwards, Foreign, Asks}
 use Rattle.aip_rules.specs.State.{now_of, restarts_of}
-use Rattle.aip_rules.specs.Nodes.{neighbours_of, neighbour_at, target_at, is_same_address}
+use Rattle.aip_addr.specs.Ids.{is_same_address}
+use Rattle.aip_rules.specs.Nodes.{neighbours_of, neighbour_at, target_at}
 use Rattle.aip_rules.specs.Routes.{port_to}
 use Rattle.aip_rules.specs.Accepted.{limits_of, pair_uses, wildcard_uses}
 use Rattle.aip_rules.specs.Reaction.{dropped, happens, happens_and_puts}
@@ -90,13 +93,6 @@ asked topo key now at frame None = dropped at.self.name reason.NoBack
 asked topo key now at frame (Some back) =
     happens_and_puts (event.Ask at.self.name at.port back) (target_at topo at.place back) (frame_bytes (challenge_frame key now at.port frame))
 
--- what a checking router makes of a frame that it could forward
-pub data Verdict : Type 0 where
-  Forwards : Cause → Verdict
-  Foreign : Verdict
-  -- it asks the source, by this port
-  Asks : Option ℕ → Verdict
-
 -- the verdict at a host's port: the challenge leaves by that port
 abbrev pub of_host : ℕ → HostVerdict → Verdict
 of_host port host.Foreign = Foreign
@@ -111,21 +107,36 @@ of_border back border.Proved = Forwards cause.Proved
 of_border back border.Wild = Forwards cause.Wild
 of_border back border.Ask = Asks back
 
--- the verdict on the source of a frame, by the records that are kept, the time, and what lies at the port at which it came,
--- where the source and its domain are fresh there or not
-abbrev pub verdict_by : Topology → List Record → (now : ℕ) → Arrival → Option Neighbour → Address → Option ℕ → (fresh wild : Bool) → Verdict
-verdict_by topo kept now at None source back fresh wild = Asks back
-verdict_by topo kept now at (Some (neighbour.Host name)) source back fresh wild =
-    of_host at.port (host_verdict (not (same_id source.ad at.self.address.ad)) fresh)
-verdict_by topo kept now at (Some (neighbour.Link other far marked)) source back fresh wild =
-    of_border back (port_verdict (trusts topo kept now at.self other marked) (leads_back back at.port) fresh wild)
+-- what is known of the source of a frame at the port at which it came: its address, the port towards it, whether it is
+-- freshly proved there, and whether its domain is a fresh wildcard there
+pub record SourceKnown : Type 0 where
+  pub address : Address
+  pub back : Option ℕ
+  pub fresh : Bool
+  pub wild : Bool
+
+-- the verdict on a source, by the records that are kept, the time, what lies at the port at which its frame came, and what is
+-- known of it there
+abbrev pub verdict_by : Topology → List Record → (now : ℕ) → Arrival → Option Neighbour → SourceKnown → Verdict
+verdict_by topo kept now at None source = Asks source.back
+verdict_by topo kept now at (Some (neighbour.Host name)) source =
+    of_host at.port (host_verdict (not (same_id source.address.ad at.self.address.ad)) source.fresh)
+verdict_by topo kept now at (Some (neighbour.Link other far marked)) source =
+    of_border source.back (port_verdict (trusts topo kept now at.self other marked) (leads_back source.back at.port) source.fresh source.wild)
+
+-- what is known of a source after a trace
+abbrev pub source_known : Topology → List Entry → Arrival → Address → SourceKnown
+source_known topo tr at source = record {
+  address = source;
+  back = port_to topo tr at.place at.self source;
+  fresh = is_fresh_pair (limits_of topo.settings) (pair_uses tr at.self.name) (now_of tr) (pair_of source at.port);
+  wild = is_fresh_wildcard (limits_of topo.settings) (wildcard_uses tr at.self.name) (now_of tr) (wildcard_of source.ad at.port);
+}
 
 -- the verdict on the source of a frame after a trace
 abbrev pub verdict_at : Topology → List Entry → Arrival → Address → Verdict
 verdict_at topo tr at source =
-    verdict_by topo (records_kept tr) (now_of tr) at (neighbour_at topo at.place at.port) source (port_to topo tr at.place at.self source)
-    (is_fresh_pair (limits_of topo.settings) (pair_uses tr at.self.name) (now_of tr) (pair_of source at.port))
-    (is_fresh_wildcard (limits_of topo.settings) (wildcard_uses tr at.self.name) (now_of tr) (wildcard_of source.ad at.port))
+    verdict_by topo (records_kept tr) (now_of tr) at (neighbour_at topo at.place at.port) (source_known topo tr at source)
 
 -- what a checking router does by its verdict
 abbrev pub by_verdict : Topology → RouterKey → ℕ → Arrival → Frame → ℕ → Verdict → Reaction

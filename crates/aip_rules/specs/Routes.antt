@@ -10,7 +10,8 @@ use Rattle.domain_routes.specs.Walks.{port_towards}
 use Rattle.aip_rules.specs.declared.Entry.{Entry}
 use Rattle.aip_rules.specs.declared.Seat.{Seat}
 use Rattle.aip_rules.specs.State.{is_up}
-use Rattle.aip_rules.specs.Nodes.{seats_of, links_of, seat_with_address, router_with_address, domain_with_ad, is_same_address}
+use Rattle.aip_addr.specs.Ids.{is_same_address}
+use Rattle.aip_rules.specs.Nodes.{seats_of, links_of, seat_with_address, router_with_address, domain_with_ad}
 
 -- the domain of each router
 abbrev pub domains_of_routers : List Router → List ℕ

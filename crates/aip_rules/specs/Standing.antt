@@ -13,7 +13,7 @@ use Rattle.aip_event.specs.declared.input.Target.TheVariants as target
 use Rattle.aip_topo.specs.declared.topology.Topology.{Topology}
 use Rattle.lms_core.specs.Tree.{Key}
 use Rattle.sent_log.specs.declared.log.Noted.{Noted}
-use Rattle.shutoff_filter.specs.declared.entries.Entry.{Entry as ShutOff}
+use Rattle.shutoff_filter.specs.declared.entries.ShutOffEntry.{ShutOffEntry as ShutOff}
 use Rattle.shutoff_filter.specs.Entries.{in_force}
 use Rattle.aip_rules.specs.declared.Entry.{Entry}
 use Rattle.aip_rules.specs.declared.Entry.TheVariants.{Taken, Happened}

@@ -85,15 +85,15 @@ restarts_of (Taken input ∷ tr) name = restarts_in input name + restarts_of tr 
 restarts_of (Happened event ∷ tr) name = restarts_of tr name
 
 -- whether a link is up after an input, where it was so before
-abbrev pub after_input : Input → ℕ → Bool → Bool
-after_input (Cut link) l before = if link == l then false else before
-after_input (Mend link) l before = if link == l then true else before
-after_input _ l before = before
+abbrev pub is_up_after_input : Input → ℕ → Bool → Bool
+is_up_after_input (Cut link) l before = if link == l then false else before
+is_up_after_input (Mend link) l before = if link == l then true else before
+is_up_after_input _ l before = before
 
 -- the link is up: its last cut or mend is a mend, or there is none
 abbrev pub is_up : List Entry → ℕ → Bool
 is_up [] l = true
-is_up (Taken input ∷ tr) l = after_input input l (is_up tr l)
+is_up (Taken input ∷ tr) l = is_up_after_input input l (is_up tr l)
 is_up (Happened event ∷ tr) l = is_up tr l
 
 -- the event brings the host of this name down: a stop of one of its disks was met
@@ -120,8 +120,8 @@ abbrev pub is_stop_of : Event → List ℕ → Bool
 is_stop_of (Stopped host leaf call byte) name = bytes_eq host name
 is_stop_of _ name = false
 
--- the stop of a signing that is armed at the host of this name: the last one, unless a restart or a signing that was
--- stopped came since
+-- the stop of a signing that is armed at the host of this name: the last one, unless a restart or a signing that
+-- was stopped came since
 abbrev pub armed_stop : List Entry → List ℕ → Option Arming
 armed_stop [] name = None
 armed_stop (Taken input ∷ tr) name = stop_after_input input name (armed_stop tr name)
@@ -138,7 +138,8 @@ abbrev pub is_halt_of : Event → List ℕ → Bool
 is_halt_of (Halted host sender until call byte) name = bytes_eq host name
 is_halt_of _ name = false
 
--- the halt that is armed at the host of this name: the last one, unless a restart or a write that was halted came since
+-- the halt that is armed at the host of this name: the last one, unless a restart or a write that was halted came
+-- since
 abbrev pub armed_halt : List Entry → List ℕ → Option Arming
 armed_halt [] name = None
 armed_halt (Taken input ∷ tr) name = halt_after_input input name (armed_halt tr name)

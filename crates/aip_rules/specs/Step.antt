@@ -18,7 +18,7 @@ use Rattle.aip_rules.specs.declared.Seat.{Seat}
 use Rattle.aip_rules.specs.declared.StepFault.{StepFault}
 use Rattle.aip_rules.specs.declared.StepFault.TheVariants as fault
 use Rattle.aip_rules.specs.State.{now_of, input_count, flight_at, frame_in}
-use Rattle.aip_rules.specs.Nodes.{seats_of, seat_named, router_named, address_named, links_of, neighbours_of, key_named}
+use Rattle.aip_rules.specs.Nodes.{seats_of, seat_named, place_of_router, address_named, links_of, neighbours_of, key_named}
 use Rattle.aip_rules.specs.Reaction.{nothing, puts, events_on}
 use Rattle.aip_rules.specs.Records.{publishes, records_kept}
 use Rattle.aip_rules.specs.Router.{at_router}
@@ -75,7 +75,7 @@ arrives_at_seat topo tr (Some seat) bytes = at_host (standing topo tr seat) byte
 
 -- what happens where bytes arrive at a target
 abbrev pub arrives : Topology → List Entry → Target → List ℕ → Reaction
-arrives topo tr (target.Port name port) bytes = arrives_at_port topo tr (router_named topo.routers name) port bytes
+arrives topo tr (target.Port name port) bytes = arrives_at_port topo tr (place_of_router topo.routers name) port bytes
 arrives topo tr (target.Host name) bytes = arrives_at_seat topo tr (seat_named (seats_of topo) name) bytes
 
 -- a flight is delivered to its target, if it was put
@@ -98,7 +98,7 @@ injected_at_host (Some seat) to bytes = if can_be_put (length bytes) then Ok (pu
 -- bytes come from outside towards a target
 abbrev pub injected : Topology → Target → List ℕ → Result Reaction StepFault
 injected topo (target.Port name port) bytes =
-    injected_at_port topo (router_named topo.routers name) (target.Port name port) port bytes
+    injected_at_port topo (place_of_router topo.routers name) (target.Port name port) port bytes
 injected topo (target.Host name) bytes = injected_at_host (seat_named (seats_of topo) name) (target.Host name) bytes
 
 -- a link is cut or mended: it is there
@@ -133,17 +133,17 @@ has_key None = false
 has_key (Some key) = true
 
 -- a stop of a host's signing is armed: the host is known and has a key, the call is 1 or 2, and the byte is one
-abbrev pub stop_armed : Topology → Option Seat → ℕ → ℕ → Result Reaction StepFault
-stop_armed topo None call byte = Err fault.Unknown
-stop_armed topo (Some seat) call byte =
+abbrev pub armed_with_stop : Topology → Option Seat → ℕ → ℕ → Result Reaction StepFault
+armed_with_stop topo None call byte = Err fault.Unknown
+armed_with_stop topo (Some seat) call byte =
     refused_if ((call == 0) || (nat_lt 2 call || nat_le 256 byte)) fault.Range
     (if has_key (key_named topo.parts seat.name) then Ok nothing else Err fault.Keyless)
 
 -- a halt of the disk on which a host keeps shut-offs is armed: the host is known, whether it is guarded or not, the call is
 -- 1 to 4, and the byte is one
-abbrev pub halt_armed : Option Seat → ℕ → ℕ → Result Reaction StepFault
-halt_armed None call byte = Err fault.Unknown
-halt_armed (Some seat) call byte =
+abbrev pub armed_with_halt : Option Seat → ℕ → ℕ → Result Reaction StepFault
+armed_with_halt None call byte = Err fault.Unknown
+armed_with_halt (Some seat) call byte =
     refused_if ((call == 0) || (nat_lt 4 call || nat_le 256 byte)) fault.Range (Ok nothing)
 
 -- bytes are published after those of a trace: they are no more than can be put at once
@@ -162,9 +162,9 @@ outcome_of topo tr (Cut link) = relinked topo link
 outcome_of topo tr (Mend link) = relinked topo link
 outcome_of topo tr (Shutoff host flight ttl) =
     shut_off topo tr (seat_named (seats_of topo) host) (flight_at tr flight) ttl
-outcome_of topo tr (Restart node) = restarted topo tr (seat_named (seats_of topo) node) (router_named topo.routers node)
-outcome_of topo tr (Stop host call byte) = stop_armed topo (seat_named (seats_of topo) host) call byte
-outcome_of topo tr (Halt host call byte) = halt_armed (seat_named (seats_of topo) host) call byte
+outcome_of topo tr (Restart node) = restarted topo tr (seat_named (seats_of topo) node) (place_of_router topo.routers node)
+outcome_of topo tr (Stop host call byte) = armed_with_stop topo (seat_named (seats_of topo) host) call byte
+outcome_of topo tr (Halt host call byte) = armed_with_halt (seat_named (seats_of topo) host) call byte
 outcome_of topo tr (Publish bytes) = published tr bytes
 
 -- the most inputs of a trace

@@ -1,10 +1,10 @@
 -- What is written for a topology and a schedule, and how the run ends.
 use Rattle.std.specs.Prelude.{◌≡◌, ℕ, ◌+◌, ◌-◌, if◌then◌else◌, nat_lt, List, [], ◌∷◌, ◌++◌, length, take, codes, Option, Some, None, Result, Ok, Err}
 use Rattle.std.specs.Fmt.{decimal}
-use Rattle.aip_text.specs.Lines.{lines_of, is_skipped, has_carriage_return}
+use Rattle.aip_text.specs.Lines.{lines_of, is_skipped, has_carriage_return, most_lines, most_line_bytes}
 use Rattle.aip_event.specs.declared.input.Input.{Input}
 use Rattle.aip_event.specs.declared.event.Event.{Event}
-use Rattle.aip_event.specs.Lines.{input_line, event_line}
+use Rattle.aip_event.specs.Lines.{input_text, event_text}
 use Rattle.aip_event.specs.Reading.{input_of}
 use Rattle.aip_topo.specs.declared.topology.Topology.{Topology}
 use Rattle.aip_topo.specs.declared.faults.TopoFault.{TopoFault}
@@ -25,27 +25,19 @@ fault_number fault.Keyless = 5
 fault_number fault.Many = 6
 fault_number fault.Long = 7
 
--- the line of an entry: an input behind "> ", an event behind "< "
-abbrev pub line_of : Entry → List ℕ
-line_of (Taken input) = codes "> " ++ (input_line input ++ 10 ∷ [])
-line_of (Happened event) = codes "< " ++ (event_line event ++ 10 ∷ [])
+-- what is written for an entry
+abbrev pub entry_text : Entry → List ℕ
+entry_text (Taken input) = input_text input
+entry_text (Happened event) = event_text event
 
--- the text of a trace: the lines of its entries, the oldest first
+-- the text of a trace: what is written for its entries, the oldest first
 abbrev pub text_of : List Entry → List ℕ
 text_of [] = []
-text_of (entry ∷ tr) = text_of tr ++ line_of entry
+text_of (entry ∷ tr) = text_of tr ++ entry_text entry
 
 -- the line that ends the text where a line of the schedule is refused: "! ", its number and the fault's
 abbrev pub refusal_line : ℕ → StepFault → List ℕ
 refusal_line line f = codes "! " ++ (decimal line ++ (32 ∷ (decimal (fault_number f) ++ 10 ∷ [])))
-
--- the most lines of a schedule
-abbrev pub most_lines : ℕ
-most_lines = 65536
-
--- the most bytes of a line
-abbrev pub most_line_bytes : ℕ
-most_line_bytes = 20000
 
 -- a line inside the limits that isn't skipped: it is an input, or outside the grammar
 abbrev pub input_or_form : Option Input → Result (Option Input) StepFault
@@ -68,33 +60,33 @@ pub data Ending : Type 0 where
   Schedule_refused : (line : ℕ) → StepFault → Ending
 
 -- what a schedule comes to: the trace of the inputs before its end or its first refused line, and how it ends
-pub record Ran : Type 0 where
+pub record EndedRun : Type 0 where
   pub trace : List Entry
   pub ending : Ending
 
 -- the run goes on with the trace of a step, or ends where the step is refused
-abbrev pub by_step : List Entry → ℕ → Input → (List Entry → Ran) → Result (List Event) StepFault → Ran
+abbrev pub by_step : List Entry → ℕ → Input → (List Entry → EndedRun) → Result (List Event) StepFault → EndedRun
 by_step tr number input go (Ok events) = go (after_step tr input events)
 by_step tr number input go (Err f) = record { trace = tr; ending = Schedule_refused number f }
 
 -- the run takes a line: it ends where the line is refused, and goes on behind a skipped line
-abbrev pub by_line : Topology → List Entry → ℕ → (List Entry → Ran) → Result (Option Input) StepFault → Ran
+abbrev pub by_line : Topology → List Entry → ℕ → (List Entry → EndedRun) → Result (Option Input) StepFault → EndedRun
 by_line topo tr number go (Err f) = record { trace = tr; ending = Schedule_refused number f }
 by_line topo tr number go (Ok None) = go tr
 by_line topo tr number go (Ok (Some input)) = by_step tr number input go (step_of topo tr input)
 
 -- the run of these lines, the first of which has this number, from a trace on
-abbrev pub ran_from : Topology → List Entry → ℕ → List (List ℕ) → Ran
+abbrev pub ran_from : Topology → List Entry → ℕ → List (List ℕ) → EndedRun
 ran_from topo tr number [] = record { trace = tr; ending = Done }
 ran_from topo tr number (line ∷ lines) =
     by_line topo tr number (λ after. ran_from topo after (number + 1) lines) (scheduled number line)
 
 -- the run of a schedule over a topology
-abbrev pub ran : Topology → List ℕ → Ran
+abbrev pub ran : Topology → List ℕ → EndedRun
 ran topo schedule = ran_from topo [] 1 (lines_of schedule)
 
 -- the run over what a topology text gives; nothing is run where it is refused
-abbrev pub ran_over : Result Topology RefusedLine → List ℕ → Ran
+abbrev pub ran_over : Result Topology RefusedLine → List ℕ → EndedRun
 ran_over (Ok topo) schedule = ran topo schedule
 ran_over (Err refused) schedule = record { trace = []; ending = Topology_refused refused.line refused.fault }
 
@@ -105,7 +97,7 @@ ending_text Done = []
 ending_text (Topology_refused line f) = []
 
 -- the text of a run: that of its trace, and the refusal line where there is one
-abbrev pub text_of_run : Ran → List ℕ
+abbrev pub text_of_run : EndedRun → List ℕ
 text_of_run r = text_of r.trace ++ ending_text r.ending
 
 -- what is written for the two files

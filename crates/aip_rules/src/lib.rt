@@ -18,7 +18,7 @@ mod laws;
 mod reactions;
 
 use aip_addr::{Address, Bytes, Name};
-use aip_event::{Event, Events, Input, Target};
+use aip_event::{Cause, Event, Events, Input, Target};
 pub use laws::{
     a_run_has_the_trace_of_its_lines, an_input_puts_at_most_one_flight, each_forward_is_justified,
     guards_are_silent, neighbours_are_trusted_by_records, no_leaf_signs_twice,
@@ -28,8 +28,8 @@ use thiserror::Error;
 /// The most inputs of a trace.
 pub const MOST_INPUTS: u32 = 65_536;
 
-/// The most lines of a schedule.
-pub const MOST_LINES: u32 = 65_536;
+/// The most bytes that are put at once, or published.
+pub const MOST_BYTES: usize = 9216;
 
 /// An entry of a trace: an input that was taken, or an event that came of the input below it.
 #[derive(Debug, Drop)]
@@ -71,8 +71,19 @@ pub enum Neighbour {
         /// The port of that router.
         port: u16,
         /// Whether the end of the router on this side is marked as trusted.
-        trusted: bool,
+        marked: bool,
     },
+}
+
+/// What a checking router makes of a frame that it could forward.
+#[derive(Clone, Copy, Debug)]
+pub enum Verdict {
+    /// It forwards it, for this cause.
+    Forwards(Cause),
+    /// The source is of another domain than the host's port that it came at.
+    Foreign,
+    /// It asks the source, by this port.
+    Asks(Option<u16>),
 }
 
 /// Where a host stands: at a port of a router, with its address.

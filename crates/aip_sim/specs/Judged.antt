@@ -19,12 +19,13 @@ end_by text = end_over (topology_of text)
 abbrev pub IsUnopened : List ℕ → RunEnd → Type 0
 IsUnopened text end = IsCutShort end ⊎ (end_by text ≡ Some end)
 
--- the answer is the one that is expected, or want of memory, or a fault of reading that has its cause
-abbrev pub IsOrUnread : RunEnd → Type 0 → RunEnd → Type 0
-IsOrUnread expected rose end = (end ≡ expected) ⊎ ((end ≡ run_end.Memory) ⊎ ((end ≡ run_end.ReadFault) × rose))
+-- an answer, of a run or a replay or a command, is the one that is expected, or want of memory, or a fault of reading that
+-- has its cause
+abbrev pub IsOrUnread : {End : Type 0} → (memory read_fault expected : End) → (cause : Type 0) → End → Type 0
+IsOrUnread memory read_fault expected cause end = (end ≡ expected) ⊎ ((end ≡ memory) ⊎ ((end ≡ read_fault) × cause))
 
 -- A topology text that by itself ends every run ends this one, unless its file couldn't be read or there was no memory, and
 -- then nothing is written; and only such a text is refused.
-pub record Judges (text : List ℕ) (unread unwritten : Type 0) (end : RunEnd) : Type 0 where
-  pub comes : IfSome (end_by text) (λ expected. unwritten × IsOrUnread expected unread end)
+pub record JudgesRun (text : List ℕ) (unread unwritten : Type 0) (end : RunEnd) : Type 0 where
+  pub comes : IfSome (end_by text) (λ expected. unwritten × IsOrUnread run_end.Memory run_end.ReadFault expected unread end)
   pub only : is_topology_refused end ≡ true → end_by text ≡ Some end

@@ -1,4 +1,3 @@
-pub mod Causes
 pub mod Unread
 pub mod Topologies
 pub mod Ends

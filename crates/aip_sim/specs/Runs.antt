@@ -6,13 +6,11 @@ use Rattle.aip_topo.specs.Reading.{topology_of}
 use Rattle.aip_rules.specs.Texts.{ran, IsTraceOfLines}
 use Rattle.aip_core.specs.Kept.{Kept}
 use Rattle.aip_core.specs.StandsFor.{StandsFor}
-use Rattle.aip_sim.specs.declared.ends.RunEnd.{RunEnd}
-use Rattle.aip_sim.specs.Ends.{IsCutShort}
 
--- The run answers this and then the whole text is taken, or a fault or want of memory cuts it short. On every answer a
--- first part of the text is taken.
-pub record Writes (expected : RunEnd) (text : List ℕ) (end : RunEnd) (old new : Option (List ℕ)) : Type 0 where
-  pub answer : IsCutShort end ⊎ (end ≡ expected)
+-- A run or a command answers this and then the whole text is taken, or a fault or want of memory cuts it short. On every
+-- answer a first part of the text is taken.
+pub record Writes {End : Type 0} (cuts_short : End → Type 0) (expected : End) (text : List ℕ) (end : End) (old new : Option (List ℕ)) : Type 0 where
+  pub answer : cuts_short end ⊎ (end ≡ expected)
   pub whole : end ≡ expected → new ≡ and_then old text
   pub part : TookPart old new text
 

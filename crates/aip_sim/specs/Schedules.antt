@@ -1,5 +1,6 @@
 -- The next line of a schedule.
 use Rattle.std.specs.Prelude.{◌≡◌, ◌≢◌, ℕ, ◌≤◌, ⊤, List, [], ◌∷◌, Some, None, Ok, Err}
+use Rattle.aip_text.specs.Lines.{most_lines}
 use Rattle.aip_event.specs.Lines.{input_line}
 use Rattle.aip_rules.specs.Texts.{scheduled}
 use Rattle.aip_sim.specs.declared.schedules.Scheduled.{Scheduled}
@@ -27,8 +28,8 @@ IsNextOf number before after line (Cut end) = ⊤
 -- what is known of it, whatever is told: an input is the one that the line spells, and only the first 65,536 lines are
 -- taken
 abbrev pub IsScheduled : ℕ → List ℕ → Scheduled → Type 0
-IsScheduled number line (Input input) = (number ≤ 65536) × (line ≡ input_line input)
-IsScheduled number line Skipped = number ≤ 65536
+IsScheduled number line (Input input) = (number ≤ most_lines) × (line ≡ input_line input)
+IsScheduled number line Skipped = number ≤ most_lines
 IsScheduled number line (Refused f) = ⊤
 IsScheduled number line End = ⊤
 IsScheduled number line (Cut end) = IsCutShort end × (end ≢ WriteFault)

@@ -1,24 +1,20 @@
 -- A run on its way, and its turns.
-use Rattle.std.specs.Prelude.{◌≡◌, ℕ, ◌+◌, ⊤, true, false, List, [], ◌++◌, ◌∷◌, flat_map, Option, is_some, IfSome, Ok}
+use Rattle.std.specs.Prelude.{◌≡◌, ℕ, ◌+◌, ⊤, true, false, List, [], ◌++◌, ◌∷◌, Option, is_some, IfSome, Ok}
 use Rattle.aip_io.specs.Sink.{and_then}
 use Rattle.aip_event.specs.declared.event.Event.{Event}
+use Rattle.aip_event.specs.Lines.{events_text}
 use Rattle.aip_topo.specs.declared.topology.Topology.{Topology}
 use Rattle.aip_topo.specs.Reading.{topology_of}
 use Rattle.aip_rules.specs.declared.Entry.{Entry}
-use Rattle.aip_rules.specs.declared.Entry.TheVariants.{Happened}
 use Rattle.aip_rules.specs.declared.StepFault.{StepFault}
-use Rattle.aip_rules.specs.Texts.{Ran, Schedule_refused, ran_from, text_of, text_of_run, line_of}
+use Rattle.aip_rules.specs.Texts.{EndedRun, Schedule_refused, ran_from, text_of, text_of_run}
 use Rattle.aip_core.specs.Kept.{Kept}
 use Rattle.aip_core.specs.StandsFor.{StandsFor}
 use Rattle.aip_sim.specs.declared.ends.RunEnd.{RunEnd}
 use Rattle.aip_sim.specs.declared.turns.Turn.{Turn}
 use Rattle.aip_sim.specs.declared.turns.Turn.TheVariants.{Goes, Ends}
-use Rattle.aip_sim.specs.Ends.{run_end_of, gives_core, is_topology_refused}
+use Rattle.aip_sim.specs.Ends.{IsCutShort, run_end_of, gives_core, is_topology_refused}
 use Rattle.aip_sim.specs.Runs.{Writes}
-
--- the lines of events
-abbrev pub events_text : List Event → List ℕ
-events_text events = flat_map (λ event. line_of (Happened event)) events
 
 -- the lines of an input, as it was read, and of its events
 abbrev pub step_text : List ℕ → List Event → List ℕ
@@ -32,7 +28,7 @@ pub record IsOpened (text : List ℕ) (core : Kept) : Type 0 where
 
 -- The run has come to these lines, the first of which has this number: the core stands for a trace, from which the run of
 -- the lines is the whole run, and the text of the trace was taken.
-pub record HasCome (topo : Topology) (core : Kept) (number : ℕ) (lines : List (List ℕ)) (start taken : Option (List ℕ)) (whole : Ran) : Type 0 where
+pub record HasCome (topo : Topology) (core : Kept) (number : ℕ) (lines : List (List ℕ)) (start taken : Option (List ℕ)) (whole : EndedRun) : Type 0 where
   pub trace : List Entry
   pub stands : StandsFor topo trace core
   pub rest : ran_from topo trace number lines ≡ whole
@@ -40,17 +36,17 @@ pub record HasCome (topo : Topology) (core : Kept) (number : ℕ) (lines : List 
 
 -- The run has ended: what was taken is its text, as far as the answer says, and a core that comes back stands for its
 -- trace.
-pub record HasEnded (topo : Topology) (whole : Ran) (start taken : Option (List ℕ)) (end : RunEnd) (core : Option Kept) : Type 0 where
-  pub writes : Writes (run_end_of whole.ending) (text_of_run whole) end start taken
+pub record HasEnded (topo : Topology) (whole : EndedRun) (start taken : Option (List ℕ)) (end : RunEnd) (core : Option Kept) : Type 0 where
+  pub writes : Writes IsCutShort (run_end_of whole.ending) (text_of_run whole) end start taken
   pub stands : IfSome core (StandsFor topo whole.trace)
 
 -- a turn of the run: it has come to the next line, or it has ended
-abbrev pub IsTurn : Topology → ℕ → List (List ℕ) → Option (List ℕ) → Option (List ℕ) → Ran → Turn → Type 0
+abbrev pub IsTurn : Topology → ℕ → List (List ℕ) → Option (List ℕ) → Option (List ℕ) → EndedRun → Turn → Type 0
 IsTurn topo number lines start taken whole (Goes core) = HasCome topo core (number + 1) lines start taken whole
 IsTurn topo number lines start taken whole (Ends end core) = HasEnded topo whole start taken end core
 
 -- The run ends here: the core stands for its trace, whose text was taken, and the line of this number is refused.
-pub record IsRefusedHere (topo : Topology) (core : Kept) (number : ℕ) (f : StepFault) (start taken : Option (List ℕ)) (whole : Ran) : Type 0 where
+pub record IsRefusedHere (topo : Topology) (core : Kept) (number : ℕ) (f : StepFault) (start taken : Option (List ℕ)) (whole : EndedRun) : Type 0 where
   pub trace : List Entry
   pub stands : StandsFor topo trace core
   pub refused : whole ≡ record { trace = trace; ending = Schedule_refused number f }
@@ -58,7 +54,7 @@ pub record IsRefusedHere (topo : Topology) (core : Kept) (number : ℕ) (f : Ste
 
 -- The core has taken the input of the line of this number, with these events: it stands for a trace, from which the run of
 -- the lines behind it is the whole run. The text of the trace without the step was taken.
-pub record IsStepped (topo : Topology) (core : Kept) (number : ℕ) (lines : List (List ℕ)) (line : List ℕ) (events : List Event) (start taken : Option (List ℕ)) (whole : Ran) : Type 0 where
+pub record IsStepped (topo : Topology) (core : Kept) (number : ℕ) (lines : List (List ℕ)) (line : List ℕ) (events : List Event) (start taken : Option (List ℕ)) (whole : EndedRun) : Type 0 where
   pub trace : List Entry
   pub before : List ℕ
   pub stands : StandsFor topo trace core

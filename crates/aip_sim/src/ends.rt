@@ -1,7 +1,7 @@
 use crate::topologies::TopologyEnd;
-use aip_addr::Memory;
 use aip_rules::StepFault;
 use aip_topo::TopoFault;
+use std::alloc::AllocError;
 
 /// How a run ends.
 #[derive(Clone, Copy, Debug, PartialEq, Eq)]
@@ -30,13 +30,13 @@ pub enum RunEnd {
     Memory,
 }
 
-impl From<Memory> for RunEnd {
+impl From<AllocError> for RunEnd {
     ghost use Rattle.std.specs.Prelude.{◌≡◌};
     ghost use Rattle.aip_sim.specs.declared.ends.RunEnd.TheVariants.{Memory};
 
     ghost from_gives = { λ _ end. end ≡ Memory };
 
-    fn from(_: Memory) -> Self {
+    fn from(_: AllocError) -> Self {
         RunEnd::Memory
     }
 }

@@ -16,7 +16,6 @@ mod topologies;
 mod turns;
 mod writing;
 
-pub use aip_addr::Memory;
 pub use ends::RunEnd;
 pub use runs::run;
 pub use topologies::{TopologyEnd, read_topology};

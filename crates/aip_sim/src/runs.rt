@@ -1,15 +1,16 @@
 // A whole run.
 ghost use Rattle.std.specs.Prelude.{◌≡◌, ◌≢◌, ◌⊎◌, ℕ, List, true, false, [], Some, None, is_some, IfSome, IfOk, IfErr, OnOk, IsErrOf};
-ghost use Rattle.aip_io.specs.Causes.{Rose};
+ghost use Rattle.fault_counts.specs.Causes.{HasCause, Rose};
+ghost use Rattle.aip_text.specs.Lines.{most_line_bytes};
+ghost use Rattle.aip_io.specs.Causes.{ReadsOnly};
 ghost use Rattle.aip_io.specs.Lines.{new_lines, left_of};
 ghost use Rattle.aip_topo.specs.declared.topology.Topology.{Topology};
 ghost use Rattle.aip_rules.specs.Texts.{end_of, output_of, ran};
 ghost use Rattle.aip_rules.specs.Promises.{ForwardsAreJustified, GuardsAreSilent, HoldsOfRun, NoLeafSignsTwice};
 ghost use Rattle.aip_core.specs.StandsFor.{StandsFor};
-ghost use Rattle.aip_sim.specs.Causes.{HasCause, ReadsOnly};
-ghost use Rattle.aip_sim.specs.Ends.{gives_core, is_topology_refused, run_end_of};
+ghost use Rattle.aip_sim.specs.Ends.{IsCutShort, gives_core, is_topology_refused, run_end_of};
 ghost use Rattle.aip_sim.specs.Runs.{StandsForRun, Writes};
-ghost use Rattle.aip_sim.specs.Judged.{IsUnopened, Judges};
+ghost use Rattle.aip_sim.specs.Judged.{IsUnopened, JudgesRun};
 ghost use Rattle.aip_sim.specs.Turns.{HasEnded, IsOpened};
 
 use crate::ends::RunEnd;
@@ -17,7 +18,7 @@ use crate::topologies::read_topology;
 use crate::turns::{Turn, take_line};
 use aip_core::Core;
 use aip_io::{Lines, Shelf, Sink};
-use aip_text::LONGEST_LINE;
+use aip_text::MOST_LINE_BYTES;
 use std::alloc::Global;
 
 // A run before its first line.
@@ -30,7 +31,7 @@ struct Opened {
 // Reads the topology, and makes what a run needs.
 fn open<S: Shelf>(alloc: Global, shelf: &mut S, name: &str) -> Result<Opened, RunEnd>
     ensures core { IfOk result (λ opened. IfSome (S.text shelf.old name.now) (λ told. IsOpened told opened.core)) }
-    ensures lines { IfOk result (λ opened. opened.lines ≡ new_lines 20000) }
+    ensures lines { IfOk result (λ opened. opened.lines ≡ new_lines most_line_bytes) }
     ensures left { IfOk result (λ opened. (text : List ℕ) → left_of text opened.lines ≡ text) }
     ensures refused { IfErr result (λ end. IfSome (S.text shelf.old name.now) (λ told. IsUnopened told end)) }
     ensures written { IfErr result (λ end. end ≢ RunEnd.WriteFault) }
@@ -40,7 +41,7 @@ fn open<S: Shelf>(alloc: Global, shelf: &mut S, name: &str) -> Result<Opened, Ru
         (S.text shelf.old) (S.faults shelf.old) (S.faults shelf.new) }
 {
     let topology = read_topology(alloc, shelf, name)?;
-    let lines = Lines::new(alloc, LONGEST_LINE)?;
+    let lines = Lines::new(alloc, MOST_LINE_BYTES)?;
     let core = Core::new(alloc, topology)?;
     Ok(Opened { core, lines })
 }
@@ -53,7 +54,7 @@ fn play<S: Shelf, K: Sink>(
     opened: Opened,
     out: &mut K,
 ) -> (RunEnd, Option<Core>)
-    requires lines { opened.lines ≡ new_lines 20000 }
+    requires lines { opened.lines ≡ new_lines most_line_bytes }
     requires left { (text : List ℕ) → left_of text opened.lines ≡ text }
     ensures told { IfSome (S.text shelf.old name.now) (λ told. (topo : Topology) → StandsFor topo [] opened.core
         → HasEnded topo (ran topo told) (K.taken out.old) (K.taken out.new) result.0 result.1) }
@@ -93,10 +94,10 @@ pub fn run<S: Shelf, K: Sink>(
     // Where the texts are told, the answer is the one that the rules give for them and what was taken is the whole text; a
     // fault or want of memory leaves a first part of it.
     ensures writes { IfSome (S.text shelf.old topo.now) (λ topology. IfSome (S.text shelf.old sched.now) (λ schedule.
-        Writes (run_end_of (end_of topology schedule)) (output_of topology schedule) result.0 (K.taken out.old) (K.taken out.new))) }
+        Writes IsCutShort (run_end_of (end_of topology schedule)) (output_of topology schedule) result.0 (K.taken out.old) (K.taken out.new))) }
     // A topology that is refused is the answer whatever the schedule's file does.
     ensures topology { IfSome (S.text shelf.old topo.now) (λ told.
-        Judges told (Rose (S.faults shelf.old topo.now) (S.faults shelf.new topo.now)) (out.new ≡ out.old) result.0) }
+        JudgesRun told (Rose (S.faults shelf.old topo.now) (S.faults shelf.new topo.now)) (out.new ≡ out.old) result.0) }
     ensures quiet { is_topology_refused result.0 ≡ true → out.new ≡ out.old }
     // The core comes back exactly on Done and Schedule, and stands for the trace.
     ensures core { is_some result.1 ≡ gives_core result.0 }

@@ -1,16 +1,16 @@
 // The next line of a schedule.
 ghost use Rattle.std.specs.Prelude.{◌≡◌, ℕ, ◌<◌, ◌≤◌, List, length, Err, IfSome};
-ghost use Rattle.aip_text.specs.Lines.{lines_of};
+ghost use Rattle.aip_text.specs.Lines.{lines_of, most_line_bytes};
+ghost use Rattle.aip_io.specs.Causes.{ReadsOnly};
 ghost use Rattle.aip_io.specs.Lines.{left_of};
 ghost use Rattle.aip_rules.specs.Texts.{scheduled};
-ghost use Rattle.aip_sim.specs.Causes.{ReadsOnly};
 ghost use Rattle.aip_sim.specs.Schedules.{IsJudged, IsNextOf, IsScheduled};
 
 use crate::ends::RunEnd;
 use aip_event::{Input, read_input};
 use aip_io::{Got, Lines, Shelf};
-use aip_rules::{MOST_LINES, StepFault};
-use aip_text::{LONGEST_LINE, has_carriage_return, is_skipped};
+use aip_rules::StepFault;
+use aip_text::{MOST_LINE_BYTES, MOST_LINES, has_carriage_return, is_skipped};
 use std::alloc::Global;
 
 /// What the next line of a schedule is.
@@ -30,7 +30,7 @@ pub enum Scheduled {
 
 // A line of at most 20,000 bytes by itself: the first fault that applies, or an input, or a line that is skipped.
 fn judge(alloc: Global, number: u32, line: &[u8]) -> Scheduled
-    requires { length line.now ≤ 20000 }
+    requires { length line.now ≤ most_line_bytes }
     ensures judged { IsJudged number line.now result }
     ensures known { IsScheduled number line.now result }
 {
@@ -52,7 +52,7 @@ fn judge(alloc: Global, number: u32, line: &[u8]) -> Scheduled
 
 // The first fault of a line that is too long.
 fn fault_of_long(number: u32) -> StepFault
-    ensures { (line : List ℕ) → 20000 < length line → scheduled number line ≡ Err result }
+    ensures { (line : List ℕ) → most_line_bytes < length line → scheduled number line ≡ Err result }
 {
     if number > MOST_LINES {
         StepFault::Many
@@ -69,11 +69,11 @@ pub fn next_scheduled<S: Shelf>(
     lines: &mut Lines,
     number: u32,
 ) -> Scheduled
-    requires { lines.old.most ≡ 20000 }
+    requires { lines.old.most ≡ most_line_bytes }
     ensures told { IfSome (S.text shelf.old name.now) (λ told.
         IsNextOf number (lines_of (left_of told lines.old)) (lines_of (left_of told lines.new)) lines.new.line result) }
     ensures known { IsScheduled number lines.new.line result }
-    ensures most { lines.new.most ≡ 20000 }
+    ensures most { lines.new.most ≡ most_line_bytes }
     ensures text { (other : List ℕ) → S.text shelf.new other ≡ S.text shelf.old other }
     ensures counts { ReadsOnly (λ other. other ≡ name.now) (result ≡ Scheduled.Cut RunEnd.ReadFault)
         (S.text shelf.old) (S.faults shelf.old) (S.faults shelf.new) }

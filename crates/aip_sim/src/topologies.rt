@@ -1,8 +1,8 @@
 // The topology in a file.
-ghost use Rattle.std.specs.Prelude.{◌≡◌, ◌≢◌, ℕ, List, take, Err, IfSome, IfOk, IsErrOf};
-ghost use Rattle.aip_topo.specs.Reading.{topology_of};
+ghost use Rattle.std.specs.Prelude.{◌≡◌, ◌≢◌, ◌+◌, ℕ, List, take, Err, IfSome, IfOk, IsErrOf};
+ghost use Rattle.aip_topo.specs.Reading.{most_text, topology_of};
 ghost use Rattle.aip_topo.specs.Sound.{IsSound};
-ghost use Rattle.aip_sim.specs.Causes.{ReadsOnly};
+ghost use Rattle.aip_io.specs.Causes.{ReadsOnly};
 ghost use Rattle.aip_sim.specs.Topologies.{IsReadOf};
 
 use aip_io::{ReadEnd, Shelf, read_all};
@@ -56,7 +56,7 @@ impl From<TopoEnd> for TopologyEnd {
 // The topology that a text gives.
 fn topology_in(alloc: Global, text: &[u8]) -> Result<Topology, TopologyEnd>
     ensures read { IsReadOf text.now result }
-    ensures decided { (whole : List ℕ) → text.now ≡ take 1048577 whole → topology_of whole ≡ topology_of text.now }
+    ensures decided { (whole : List ℕ) → text.now ≡ take (most_text + 1) whole → topology_of whole ≡ topology_of text.now }
     ensures sound { IfOk result IsSound }
     ensures known { result ≢ Err TopologyEnd.ReadFault }
 {

@@ -1,11 +1,12 @@
 // One line of a schedule, taken.
 ghost use Rattle.std.specs.Prelude.{◌≡◌, ℕ, ◌≤◌, ◌∷◌, List, Option, Ok, Some, IfSome};
-ghost use Rattle.aip_text.specs.Lines.{lines_of};
+ghost use Rattle.fault_counts.specs.Causes.{HasCause};
+ghost use Rattle.aip_text.specs.Lines.{lines_of, most_line_bytes, most_lines};
 ghost use Rattle.aip_event.specs.Lines.{input_line};
+ghost use Rattle.aip_io.specs.Causes.{ReadsOnly};
 ghost use Rattle.aip_io.specs.Lines.{left_of};
 ghost use Rattle.aip_topo.specs.declared.topology.Topology.{Topology};
-ghost use Rattle.aip_rules.specs.Texts.{Ran, scheduled};
-ghost use Rattle.aip_sim.specs.Causes.{HasCause, ReadsOnly};
+ghost use Rattle.aip_rules.specs.Texts.{EndedRun, scheduled};
 ghost use Rattle.aip_sim.specs.Turns.{EndsWith, HasCome, IsGoing, IsKnown, IsRefusedHere, IsStepped, IsTurn};
 
 use crate::ends::RunEnd;
@@ -28,7 +29,7 @@ pub enum Turn {
 
 // Ends the run at a refused line, whose refusal line is written.
 fn refuse<K: Sink>(alloc: Global, core: Core, number: u32, fault: StepFault, out: &mut K) -> Turn
-    ensures told { (topo : Topology) (lines : List (List ℕ)) (start : Option (List ℕ)) (whole : Ran)
+    ensures told { (topo : Topology) (lines : List (List ℕ)) (start : Option (List ℕ)) (whole : EndedRun)
         → IsRefusedHere topo core number fault start (K.taken out.old) whole
         → IsTurn topo number lines start (K.taken out.new) whole result }
     ensures ends { IsGoing result → ⊥ }
@@ -50,7 +51,7 @@ fn refuse<K: Sink>(alloc: Global, core: Core, number: u32, fault: StepFault, out
 
 // Writes the lines of a step to this core, and goes on with it.
 fn go_on<K: Sink>(alloc: Global, core: Core, line: &[u8], events: &[Event], out: &mut K) -> Turn
-    ensures told { (topo : Topology) (number : ℕ) (lines : List (List ℕ)) (start : Option (List ℕ)) (whole : Ran)
+    ensures told { (topo : Topology) (number : ℕ) (lines : List (List ℕ)) (start : Option (List ℕ)) (whole : EndedRun)
         → IsStepped topo core number lines line.now events.now start (K.taken out.old) whole
         → IsTurn topo number lines start (K.taken out.new) whole result }
     ensures known { IsKnown result }
@@ -73,7 +74,7 @@ fn take_input<K: Sink>(
     out: &mut K,
 ) -> Turn
     requires spelled { line.now ≡ input_line input }
-    ensures told { (topo : Topology) (lines : List (List ℕ)) (start : Option (List ℕ)) (whole : Ran)
+    ensures told { (topo : Topology) (lines : List (List ℕ)) (start : Option (List ℕ)) (whole : EndedRun)
         → scheduled number line.now ≡ Ok (Some input)
         → HasCome topo core number (line.now ∷ lines) start (K.taken out.old) whole
         → IsTurn topo number lines start (K.taken out.new) whole result }
@@ -98,13 +99,13 @@ pub fn take_line<S: Shelf, K: Sink>(
     core: Core,
     out: &mut K,
 ) -> Turn
-    requires { lines.old.most ≡ 20000 }
-    ensures told { IfSome (S.text shelf.old name.now) (λ told. (topo : Topology) (start : Option (List ℕ)) (whole : Ran)
+    requires { lines.old.most ≡ most_line_bytes }
+    ensures told { IfSome (S.text shelf.old name.now) (λ told. (topo : Topology) (start : Option (List ℕ)) (whole : EndedRun)
         → HasCome topo core number (lines_of (left_of told lines.old)) start (K.taken out.old) whole
         → IsTurn topo number (lines_of (left_of told lines.new)) start (K.taken out.new) whole result) }
     ensures known { IsKnown result }
-    ensures few { IsGoing result → number ≤ 65536 }
-    ensures most { lines.new.most ≡ 20000 }
+    ensures few { IsGoing result → number ≤ most_lines }
+    ensures most { lines.new.most ≡ most_line_bytes }
     ensures text { (other : List ℕ) → S.text shelf.new other ≡ S.text shelf.old other }
     ensures counts { ReadsOnly (λ other. other ≡ name.now) (EndsWith RunEnd.ReadFault result)
         (S.text shelf.old) (S.faults shelf.old) (S.faults shelf.new) }

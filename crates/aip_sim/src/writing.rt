@@ -1,50 +1,31 @@
 // Writing what a run writes.
 ghost use Rattle.std.specs.Prelude.{◌≡◌, ◌++◌, OnOk, IfOk, IfErr, IsErr, IsErrOf, ◌≢◌};
+ghost use Rattle.fault_counts.specs.Causes.{HasCause};
 ghost use Rattle.aip_io.specs.Sink.{and_then, TookPart};
-ghost use Rattle.aip_rules.specs.declared.Entry.TheVariants.{Happened};
-ghost use Rattle.aip_rules.specs.Texts.{line_of, refusal_line};
-ghost use Rattle.aip_sim.specs.Causes.{HasCause};
+ghost use Rattle.aip_rules.specs.Texts.{refusal_line};
 ghost use Rattle.aip_sim.specs.Ends.{IsCutShort};
-ghost use Rattle.aip_sim.specs.Turns.{events_text, step_text};
+ghost use Rattle.aip_sim.specs.Turns.{step_text};
 
 use crate::ends::RunEnd;
-use aip_addr::Memory;
-use aip_event::{Event, write_event};
+use aip_event::{Event, write_events};
 use aip_io::{Sink, put_all};
 use aip_rules::StepFault;
 use aip_text::{push_number, push_text};
-use std::alloc::Global;
-
-fn push_event(alloc: Global, out: &mut Vec<u8>, event: &Event) -> Result<(), Memory>
-    ensures { OnOk result (out.new.items ≡ out.old.items ++ line_of (Happened event.now)) }
-{
-    push_text(out, b"< ")?;
-    write_event(alloc, event, out)?;
-    push_text(out, b"\n")
-}
-
-fn push_events(alloc: Global, out: &mut Vec<u8>, events: &[Event]) -> Result<(), Memory>
-    ensures { OnOk result (out.new.items ≡ out.old.items ++ events_text events.now) }
-{
-    for event in events {
-        push_event(alloc, out, event)?;
-    }
-    Ok(())
-}
+use std::alloc::{AllocError, Global};
 
 // The lines of an input, as it was read, and of its events.
-fn text_of_step(alloc: Global, line: &[u8], events: &[Event]) -> Result<Vec<u8>, Memory>
+fn text_of_step(alloc: Global, line: &[u8], events: &[Event]) -> Result<Vec<u8>, AllocError>
     ensures { IfOk result (λ text. text.items ≡ step_text line.now events.now) }
 {
     let mut text = Vec::new(alloc);
     push_text(&mut text, b"> ")?;
     push_text(&mut text, line)?;
     push_text(&mut text, b"\n")?;
-    push_events(alloc, &mut text, events)?;
+    write_events(alloc, events, &mut text)?;
     Ok(text)
 }
 
-fn text_of_refusal(alloc: Global, line: u32, fault: StepFault) -> Result<Vec<u8>, Memory>
+fn text_of_refusal(alloc: Global, line: u32, fault: StepFault) -> Result<Vec<u8>, AllocError>
     ensures { IfOk result (λ text. text.items ≡ refusal_line line fault) }
 {
     let mut text = Vec::new(alloc);

@@ -2,6 +2,14 @@
 use Rattle.std.specs.Prelude.{ℕ, ◌==◌, Bool, true, false, not, if◌then◌else◌, List, [], ◌∷◌}
 use Rattle.std.specs.List.{list_all, list_any, onto_first}
 
+-- the most lines of a schedule or of a file of records
+abbrev pub most_lines : ℕ
+most_lines = 65536
+
+-- the most bytes of a line, without its line feed
+abbrev pub most_line_bytes : ℕ
+most_line_bytes = 20000
+
 -- a byte is the line feed
 abbrev pub is_line_feed : ℕ → Bool
 is_line_feed b = b == 10

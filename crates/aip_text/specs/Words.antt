@@ -1,5 +1,5 @@
 -- The words of a text file: numbers and bytes in hex, and where a word ends.
-use Rattle.std.specs.Prelude.{◌≡◌, ℕ, ◌+◌, ◌^◌, ◌==◌, ◌&&◌, ◌||◌, Bool, true, false, not, if◌then◌else◌, nat_le, nat_lt, List, [], ◌∷◌, ◌++◌, length, take, drop, position, codes, Option, Some, None}
+use Rattle.std.specs.Prelude.{◌≡◌, ◌<◌, ℕ, ◌+◌, ◌^◌, ◌==◌, ◌&&◌, ◌||◌, Bool, true, false, not, if◌then◌else◌, nat_le, nat_lt, List, [], ◌∷◌, ◌++◌, length, take, drop, position, codes, Option, Some, None}
 use Rattle.std.specs.List.{list_all}
 use Rattle.std.specs.Option.{option_map}
 use Rattle.std.specs.Result.{result_ok}
@@ -22,6 +22,10 @@ u64_of word =
 -- the same of at most 15 digits
 abbrev pub number_of : List ℕ → Option ℕ
 number_of word = if nat_le (length word) 15 then u64_of word else None
+
+-- a number that a line may write: of at most 15 digits
+abbrev pub IsNumber : ℕ → Type 0
+IsNumber n = n < 10 ^ 15
 
 -- a digit of hex, in lower case
 abbrev pub is_lower_digit : ℕ → Bool

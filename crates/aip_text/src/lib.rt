@@ -19,7 +19,9 @@ mod reading;
 mod writing;
 
 pub use fields::{five_words, four_words, read_id, read_name, three_words};
-pub use lines::{FirstLine, LONGEST_LINE, has_carriage_return, is_skipped, next_line};
+pub use lines::{
+    FirstLine, MOST_LINE_BYTES, MOST_LINES, has_carriage_return, is_skipped, next_line,
+};
 pub use reading::{cut, cut_at, read_bytes, read_hex, read_hex_array, read_number, read_u64};
 pub use writing::{push_bytes, push_hex, push_number, push_space, push_text, push_word};
 

@@ -4,7 +4,10 @@ ghost use Rattle.aip_text.specs.Lines.{has_carriage_return, has_no_line_feed, is
 use crate::reading::place_of;
 
 /// The most bytes of a line, without its line feed.
-pub const LONGEST_LINE: usize = 20_000;
+pub const MOST_LINE_BYTES: usize = 20_000;
+
+/// The most lines of a schedule or of a file of records.
+pub const MOST_LINES: u32 = 65_536;
 
 /// The first line of a text, and the rest.
 #[derive(Clone, Copy, Debug)]

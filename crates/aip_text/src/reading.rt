@@ -3,7 +3,7 @@ ghost use Rattle.std.specs.List.{list_all};
 ghost use Rattle.std.specs.Option.{option_map};
 ghost use Rattle.aip_addr.specs.Naming.{is_digit};
 ghost use Rattle.hex.specs.Hex.{IsBytes, encode_lower};
-ghost use Rattle.aip_text.specs.Words.{bytes_of, bytes_word, cut, cut_at, has_first_digit, hex_of, hex_sized, is_lower_digit, number_of, u64_of};
+ghost use Rattle.aip_text.specs.Words.{bytes_of, bytes_word, cut, cut_at, has_first_digit, hex_of, hex_sized, is_lower_digit, number_of, u64_of, IsNumber};
 
 use aip_addr::Bytes;
 use hex::FromHexError;
@@ -16,8 +16,8 @@ const MOST_DIGITS: usize = 15;
 /// is no such number.
 pub fn read_number(word: &[u8]) -> Option<u64>
     ensures exact { result ≡ number_of word.now }
-    ensures found { IfSome result (λ n. (n < 10 ^ 15) × (word.now ≡ decimal n)) }
-    ensures again { (n : ℕ) → n < 10 ^ 15 → word.now ≡ decimal n → result ≡ Some n }
+    ensures found { IfSome result (λ n. IsNumber n × (word.now ≡ decimal n)) }
+    ensures again { (n : ℕ) → IsNumber n → word.now ≡ decimal n → result ≡ Some n }
 {
     number_in(word)
 }

@@ -5,6 +5,7 @@ use Rattle.aip_io.specs.Sink.{and_then}
 use Rattle.aip_topo.specs.declared.topology.Topology.{Topology}
 use Rattle.aip_topo.specs.Reading.{RefusedLine, topology_of}
 use Rattle.aip_records.specs.Files.{RefusedRecord, records_of}
+use Rattle.aip_sim.specs.Runs.{Writes}
 use Rattle.aip_top.specs.declared.status.Status.{Status}
 use Rattle.aip_top.specs.declared.status.Status.TheVariants as status
 use Rattle.aip_top.specs.declared.status.LeaseFault.{LeaseFault}
@@ -13,7 +14,7 @@ use Rattle.aip_top.specs.Commands.{RegistryOf}
 use Rattle.aip_top.specs.Judged.{refusal_of, refusal_over, IsEarly, IsOrMemory, IsUnread}
 use Rattle.aip_top.specs.Listings.{listing_end, listing_of, listing_text, registry_in, registry_over}
 use Rattle.aip_top.specs.Statuses.{kind_of}
-use Rattle.aip_top.specs.Written.{Writes}
+use Rattle.aip_top.specs.Written.{CutsShort}
 use Rattle.aip_top.proofs.Early.{cut}
 use Rattle.aip_top.proofs.Leases.{and_nothing, took_nothing}
 
@@ -44,15 +45,15 @@ ends_or (status.Lease f) expected A B (inl short) read put a b = absurd (kept f 
 
 -- what was listed over a topology that was read
 pub listed : (t s mid : Option (List ℕ)) (topo : Topology) (unread unwritten : Type 0) (end : Status) (old new : Option (List ℕ)) → mid ≡ s → IfSome t (λ told. topology_of told ≡ Ok topo)
-    → IfSome mid (λ file. Writes (listing_end (listing_of (records_of topo.domains file))) (listing_text (listing_of (records_of topo.domains file))) end old new)
+    → IfSome mid (λ file. Writes CutsShort (listing_end (listing_of (records_of topo.domains file))) (listing_text (listing_of (records_of topo.domains file))) end old new)
     → (end ≡ status.ReadFault → unread) → (end ≡ status.WriteFault → unwritten)
     → IfSome t (λ told. IfSome s (λ file. RegistryOf told file unread unwritten end old new))
 listed None s mid topo unread unwritten end old new same given writes read put = tt
 listed (Some told) None mid topo unread unwritten end old new same given writes read put = tt
 listed (Some told) (Some file) mid topo unread unwritten end old new same given writes read put =
-    let here = subst (λ o. IfSome o (λ file. Writes (listing_end (listing_of (records_of topo.domains file))) (listing_text (listing_of (records_of topo.domains file))) end old new)) same writes in
-    let wrote : Writes (listing_end (registry_in told file)) (listing_text (registry_in told file)) end old new =
-    subst (λ (r : Result Topology RefusedLine). Writes (listing_end (registry_over r file)) (listing_text (registry_over r file)) end old new) (sym given) here in
+    let here = subst (λ o. IfSome o (λ file. Writes CutsShort (listing_end (listing_of (records_of topo.domains file))) (listing_text (listing_of (records_of topo.domains file))) end old new)) same writes in
+    let wrote : Writes CutsShort (listing_end (registry_in told file)) (listing_text (registry_in told file)) end old new =
+    subst (λ (r : Result Topology RefusedLine). Writes CutsShort (listing_end (registry_over r file)) (listing_text (registry_over r file)) end old new) (sym given) here in
     record { writes = wrote; complete = ends_or end (listing_end (registry_in told file)) unread unwritten wrote.answer read put }
 
 -- ## A topology that isn't read

@@ -9,11 +9,11 @@ use Rattle.aip_registry.specs.declared.records.Record.{Record}
 use Rattle.record_signer.specs.Signed.{SparesBut, is_refusal, next_leaf, signed_by, signed_line, spent}
 use Rattle.aip_rules.specs.Texts.{end_of, output_of}
 use Rattle.aip_core.specs.Kept.{Kept}
-use Rattle.aip_sim.specs.Runs.{StandsForRun}
+use Rattle.aip_sim.specs.Runs.{StandsForRun, Writes}
 use Rattle.aip_top.specs.declared.status.Status.{Status}
 use Rattle.aip_top.specs.Statuses.{status_of}
 use Rattle.aip_top.specs.Judged.{IsOrMemory}
-use Rattle.aip_top.specs.Written.{Writes, WritesOnDone}
+use Rattle.aip_top.specs.Written.{CutsShort, WritesOnDone}
 use Rattle.aip_top.specs.Addresses.{address_end, addresses_in}
 use Rattle.aip_top.specs.Listings.{listing_end, listing_text, registry_in}
 use Rattle.aip_top.specs.Workloads.{IsRefused, workload_end, workload_text}
@@ -23,18 +23,18 @@ use Rattle.aip_top.specs.Leasing.{Formats, HasFresh, IsAlready, IsFormatted, Kee
 -- `run` of two texts: it ends and writes as the rules say, comes to its end where nothing fails, and a core that comes back
 -- stands for the trace.
 pub record RunOf (topology schedule : List ℕ) (unread unwritten : Type 0) (end : Status) (core : Option Kept) (old new : Option (List ℕ)) : Type 0 where
-  pub writes : Writes (status_of (end_of topology schedule)) (output_of topology schedule) end old new
+  pub writes : Writes CutsShort (status_of (end_of topology schedule)) (output_of topology schedule) end old new
   pub complete : (unread → ⊥) → (unwritten → ⊥) → IsOrMemory (status_of (end_of topology schedule)) end
   pub stands : IfSome core (StandsForRun topology schedule)
 
 -- `address` of a topology text: the same, for the addresses in it.
 pub record AddressOf (text : List ℕ) (unread unwritten : Type 0) (end : Status) (old new : Option (List ℕ)) : Type 0 where
-  pub writes : Writes (address_end text) (addresses_in text) end old new
+  pub writes : Writes CutsShort (address_end text) (addresses_in text) end old new
   pub complete : (unread → ⊥) → (unwritten → ⊥) → IsOrMemory (address_end text) end
 
 -- `registry` of a topology text and a record file: the same, for the list of the records that are kept.
 pub record RegistryOf (topology records : List ℕ) (unread unwritten : Type 0) (end : Status) (old new : Option (List ℕ)) : Type 0 where
-  pub writes : Writes (listing_end (registry_in topology records)) (listing_text (registry_in topology records)) end old new
+  pub writes : Writes CutsShort (listing_end (registry_in topology records)) (listing_text (registry_in topology records)) end old new
   pub complete : (unread → ⊥) → (unwritten → ⊥) → IsOrMemory (listing_end (registry_in topology records)) end
 
 -- `lease` for a key: how it may end, by the file as it was; where the file was formatted, it is fresh in every image that a
@@ -76,6 +76,6 @@ pub record RecordOf {D : Type 0} (content : D → Option (List ℕ)) (may_leave 
 -- `make` of a workload that gives a text, or is refused: it ends so, and writes that text, or nothing; it comes to its end
 -- where nothing fails, and to its refusal whatever fails.
 pub record MakeOf (given : Result (List ℕ) Status) (unwritten : Type 0) (end : Status) (old new : Option (List ℕ)) : Type 0 where
-  pub writes : Writes (workload_end given) (workload_text given) end old new
+  pub writes : Writes CutsShort (workload_end given) (workload_text given) end old new
   pub complete : (unwritten → ⊥) → IsOrMemory (workload_end given) end
   pub refused : IsRefused given → IsOrMemory (workload_end given) end

@@ -2,7 +2,7 @@
 use Rattle.std.specs.Prelude.{◌≡◌, ◌⊎◌, ℕ, ⊤, true, List, Option, Some, None, IfSome, option_map, Result, Ok, Err}
 use Rattle.aip_topo.specs.declared.topology.Topology.{Topology}
 use Rattle.aip_topo.specs.Reading.{RefusedLine, topology_of}
-use Rattle.aip_sim.specs.Judged.{end_by as run_end_by}
+use Rattle.aip_sim.specs.Judged.{IsOrUnread, end_by as run_end_by}
 use Rattle.aip_top.specs.Words.{Command, Run, Address, Lease, Registry, Record, Make, Replay}
 use Rattle.aip_top.specs.Recording.{denial_in, drafted_of}
 use Rattle.aip_top.specs.Leasing.{refusal_in, asked_of}
@@ -41,14 +41,10 @@ IsEarly expected end = IsUnread end ⊎ (expected ≡ Some end)
 abbrev pub IsOrMemory : Status → Status → Type 0
 IsOrMemory expected end = (end ≡ expected) ⊎ (end ≡ status.Memory)
 
--- the answer is the one that is expected, or want of memory, or a fault of reading that has its cause
-abbrev pub IsOrUnread : Status → Type 0 → Status → Type 0
-IsOrUnread expected rose end = (end ≡ expected) ⊎ ((end ≡ status.Memory) ⊎ ((end ≡ status.ReadFault) × rose))
-
 -- A topology text that by itself ends the command ends it so, unless its file couldn't be read or there was no memory, and
 -- all else stays as it was. Only such a text is refused.
-pub record Judges (expected : Option Status) (unread stays : Type 0) (end : Status) : Type 0 where
-  pub comes : IfSome expected (λ answer. stays × IsOrUnread answer unread end)
+pub record JudgesCommand (expected : Option Status) (unread stays : Type 0) (end : Status) : Type 0 where
+  pub comes : IfSome expected (λ answer. stays × IsOrUnread status.Memory status.ReadFault answer unread end)
   pub only : (kind_of end).refuses ≡ true → expected ≡ Some end
 
 -- what a topology text gives a command: the topology, or an early end

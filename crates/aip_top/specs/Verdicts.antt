@@ -3,8 +3,9 @@ use Rattle.std.specs.Prelude.{◌≢◌, ℕ, ⊤, Bool, true, false, List, [], 
 use Rattle.aip_replay.specs.Answers.{Answers, IsRightOver}
 use Rattle.aip_replay.specs.declared.ends.ReplayEnd.{ReplayEnd}
 use Rattle.aip_replay.specs.declared.ends.ReplayEnd.TheVariants as replay_end
+use Rattle.aip_sim.specs.Runs.{Writes}
 use Rattle.aip_top.specs.Judged.{IsOrMemory}
-use Rattle.aip_top.specs.Written.{Writes}
+use Rattle.aip_top.specs.Written.{CutsShort}
 use Rattle.aip_top.specs.declared.status.Status.{Status}
 use Rattle.aip_top.specs.declared.status.Status.TheVariants as status
 
@@ -49,11 +50,11 @@ pub record ReplayOf (topology file : List ℕ) (unread unwritten : Type 0) (end 
   pub says : ReplaySays topology file end
   pub verdict : ReplayEnd
   pub right : Answers topology file verdict
-  pub writes : Writes (status_of_replay verdict) (replay_text verdict) end old new
+  pub writes : Writes CutsShort (status_of_replay verdict) (replay_text verdict) end old new
   pub complete : (unread → ⊥) → (unwritten → ⊥) → (verdict ≢ replay_end.ReadFault) × IsOrMemory (status_of_replay verdict) end
 
 -- Told or not, what a replay writes goes by its status: it is the line of a verdict whose status is the answer, or a first part
 -- of one where a fault or want of memory ends it.
 pub record TellsVerdict (end : Status) (old new : Option (List ℕ)) : Type 0 where
   pub verdict : ReplayEnd
-  pub writes : Writes (status_of_replay verdict) (replay_text verdict) end old new
+  pub writes : Writes CutsShort (status_of_replay verdict) (replay_text verdict) end old new

@@ -1,24 +1,24 @@
 // The command `address`: the addresses of a topology, as text.
 ghost use Rattle.std.specs.Prelude.{◌≡◌, ◌++◌, true, false, Some, IfSome, IfOk, IfErr, IsErrOf, OnOk, flat_map};
-ghost use Rattle.aip_io.specs.Causes.{Rose};
+ghost use Rattle.fault_counts.specs.Causes.{HasCause, Rose};
+ghost use Rattle.aip_io.specs.Causes.{ReadsOnly};
 ghost use Rattle.aip_rules.specs.Nodes.{host_address};
-ghost use Rattle.aip_sim.specs.Causes.{HasCause, ReadsOnly};
 ghost use Rattle.aip_top.specs.Addresses.{ad_line, addresses_of, at_line, part_line, router_line, IsWritten};
 ghost use Rattle.aip_top.specs.Commands.{AddressOf};
-ghost use Rattle.aip_top.specs.Judged.{refusal_of, IsEarly, IsOpeningEnd, Judges};
+ghost use Rattle.aip_top.specs.Judged.{refusal_of, IsEarly, IsOpeningEnd, JudgesCommand};
 ghost use Rattle.aip_top.specs.Statuses.{kind_of};
 ghost use Rattle.aip_top.specs.Words.{Address, IsNamed};
 
 use crate::status::Status;
 use crate::topology::topology_under;
 use crate::writing::put_text;
-use aip_addr::{Id, Memory};
+use aip_addr::Id;
 use aip_io::{Shelf, Sink};
 use aip_text::{push_hex, push_space, push_text, push_word};
 use aip_topo::{Domain, HostPart, Part, Router, Topology};
-use std::alloc::Global;
+use std::alloc::{AllocError, Global};
 
-fn push_domain(out: &mut Vec<u8>, domain: &Domain) -> Result<(), Memory>
+fn push_domain(out: &mut Vec<u8>, domain: &Domain) -> Result<(), AllocError>
     ensures { OnOk result (out.new.items ≡ out.old.items ++ ad_line domain.now) }
 {
     push_text(out, b"ad")?;
@@ -28,7 +28,7 @@ fn push_domain(out: &mut Vec<u8>, domain: &Domain) -> Result<(), Memory>
     push_text(out, b"\n")
 }
 
-fn push_domains(out: &mut Vec<u8>, domains: &[Domain]) -> Result<(), Memory>
+fn push_domains(out: &mut Vec<u8>, domains: &[Domain]) -> Result<(), AllocError>
     ensures { OnOk result (out.new.items ≡ out.old.items ++ flat_map ad_line domains.now) }
 {
     for domain in domains {
@@ -38,7 +38,7 @@ fn push_domains(out: &mut Vec<u8>, domains: &[Domain]) -> Result<(), Memory>
 }
 
 // Appends the line of a router or a host.
-fn push_address(out: &mut Vec<u8>, name: &[u8], ad: &[u8], eid: &Id) -> Result<(), Memory>
+fn push_address(out: &mut Vec<u8>, name: &[u8], ad: &[u8], eid: &Id) -> Result<(), AllocError>
     ensures { OnOk result (out.new.items ≡ out.old.items ++ at_line name.now (record { ad = record { bytes = ad.now }; eid = eid.now })) }
 {
     push_text(out, b"at")?;
@@ -50,14 +50,14 @@ fn push_address(out: &mut Vec<u8>, name: &[u8], ad: &[u8], eid: &Id) -> Result<(
     push_text(out, b"\n")
 }
 
-fn push_router(out: &mut Vec<u8>, router: &Router) -> Result<(), Memory>
+fn push_router(out: &mut Vec<u8>, router: &Router) -> Result<(), AllocError>
     ensures { OnOk result (out.new.items ≡ out.old.items ++ router_line router.now) }
 {
     let address = &router.address;
     push_address(out, router.name.bytes(), &address.ad.bytes, &address.eid)
 }
 
-fn push_routers(out: &mut Vec<u8>, routers: &[Router]) -> Result<(), Memory>
+fn push_routers(out: &mut Vec<u8>, routers: &[Router]) -> Result<(), AllocError>
     ensures { OnOk result (out.new.items ≡ out.old.items ++ flat_map router_line routers.now) }
 {
     for router in routers {
@@ -67,7 +67,7 @@ fn push_routers(out: &mut Vec<u8>, routers: &[Router]) -> Result<(), Memory>
 }
 
 // A host has the domain's id of its router.
-fn push_host(out: &mut Vec<u8>, routers: &[Router], host: &HostPart) -> Result<(), Memory>
+fn push_host(out: &mut Vec<u8>, routers: &[Router], host: &HostPart) -> Result<(), AllocError>
     ensures { OnOk result (out.new.items ≡ out.old.items ++ at_line host.now.name (host_address routers.now host.now)) }
 {
     match routers.get(host.router as usize) {
@@ -76,7 +76,7 @@ fn push_host(out: &mut Vec<u8>, routers: &[Router], host: &HostPart) -> Result<(
     }
 }
 
-fn push_part(out: &mut Vec<u8>, routers: &[Router], part: &Part) -> Result<(), Memory>
+fn push_part(out: &mut Vec<u8>, routers: &[Router], part: &Part) -> Result<(), AllocError>
     ensures { OnOk result (out.new.items ≡ out.old.items ++ part_line routers.now part.now) }
 {
     match part {
@@ -85,7 +85,7 @@ fn push_part(out: &mut Vec<u8>, routers: &[Router], part: &Part) -> Result<(), M
     }
 }
 
-fn push_parts(out: &mut Vec<u8>, routers: &[Router], parts: &[Part]) -> Result<(), Memory>
+fn push_parts(out: &mut Vec<u8>, routers: &[Router], parts: &[Part]) -> Result<(), AllocError>
     ensures { OnOk result (out.new.items ≡ out.old.items ++ flat_map (part_line routers.now) parts.now) }
 {
     for part in parts {
@@ -96,7 +96,7 @@ fn push_parts(out: &mut Vec<u8>, routers: &[Router], parts: &[Part]) -> Result<(
 
 // The addresses of the domains, then of the routers, then of the hosts, a line for each, in the order of the file. The
 // only error is want of memory.
-fn addresses_of(alloc: Global, topology: &Topology) -> Result<Vec<u8>, Memory>
+fn addresses_of(alloc: Global, topology: &Topology) -> Result<Vec<u8>, AllocError>
     ensures { IfOk result (λ text. text.items ≡ addresses_of topology.now) }
 {
     let mut out = Vec::new(alloc);
@@ -130,7 +130,7 @@ pub fn address<S: Shelf, K: Sink>(
     ensures told { IfSome (S.text shelf.old topology.now) (λ told. AddressOf told
         (Rose (S.faults shelf.old topology.now) (S.faults shelf.new topology.now))
         (Rose (K.faults out.old) (K.faults out.new)) result (K.taken out.old) (K.taken out.new)) }
-    ensures judged { IfSome (S.text shelf.old topology.now) (λ told. Judges (refusal_of told)
+    ensures judged { IfSome (S.text shelf.old topology.now) (λ told. JudgesCommand (refusal_of told)
         (Rose (S.faults shelf.old topology.now) (S.faults shelf.new topology.now)) (out.new ≡ out.old) result) }
     ensures belongs { (kind_of result).answers (Some (Address topology.now)) ≡ true }
     ensures quiet { (kind_of result).writes (Some (Address topology.now)) ≡ false → out.new ≡ out.old }

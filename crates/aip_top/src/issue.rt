@@ -2,12 +2,12 @@
 ghost use Rattle.std.specs.Prelude.{true, false, ◌≡◌, ◌≢◌, ◌⊎◌, Err, List, ℕ, Some, find, option_map, IfSome, IfOk, IfErr, IsErrOf};
 ghost use Rattle.std.specs.Str.{bytes_eq};
 ghost use Rattle.std.specs.Option.{ForSome};
-ghost use Rattle.aip_io.specs.Causes.{Rose};
-ghost use Rattle.aip_sim.specs.Causes.{HasCause, ReadsOnly};
+ghost use Rattle.fault_counts.specs.Causes.{HasCause, Rose};
+ghost use Rattle.aip_io.specs.Causes.{ReadsOnly};
 ghost use Rattle.record_signer.specs.Signed.{Signs, signed_by};
 ghost use Rattle.aip_top.specs.Commands.{RecordOf, RecordDone};
 ghost use Rattle.aip_top.specs.Draft.{IsDrafted};
-ghost use Rattle.aip_top.specs.Judged.{IsEarly, Judges};
+ghost use Rattle.aip_top.specs.Judged.{IsEarly, JudgesCommand};
 ghost use Rattle.aip_top.specs.Leasing.{IsBeforeDisk};
 ghost use Rattle.aip_top.specs.Recording.{HasWritten, KeepsRecords, OfDraft, denial_in, drafted_by, drafted_in, drafted_of, drafted_with, domain_id, host_id, is_host_named, other_named};
 ghost use Rattle.aip_top.specs.Statuses.{kind_of};
@@ -188,7 +188,7 @@ pub fn issue<S: Shelf, K: Sink, D: Disk>(
         (Rose (S.faults shelf.old topology.now) (S.faults shelf.new topology.now))
         (Rose (K.faults out.old) (K.faults out.new)) (Rose (D.faults disk) (D.faults result.1))
         result.0 disk result.1 (K.taken out.old) (K.taken out.new))) }
-    ensures judged { IfSome (S.text shelf.old topology.now) (λ told. Judges (denial_in (drafted_of told said.now))
+    ensures judged { IfSome (S.text shelf.old topology.now) (λ told. JudgesCommand (denial_in (drafted_of told said.now))
         (Rose (S.faults shelf.old topology.now) (S.faults shelf.new topology.now))
         ((out.new ≡ out.old) × (result.1 ≡ disk)) result.0) }
     ensures keeps { KeepsRecords D.may_leave D.clock D.during result.0 disk result.1 }

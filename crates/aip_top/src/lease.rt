@@ -2,16 +2,15 @@
 ghost use Rattle.std.specs.Prelude.{true, false, ◌≡◌, ◌≢◌, ◌⊎◌, Err, ◌++◌, ◌∷◌, [], Some, codes, decimal, find, option_map, IfSome, IfOk, IfErr, IsErrOf, OnOk};
 ghost use Rattle.std.specs.Str.{bytes_eq};
 ghost use Rattle.hex.specs.Hex.{encode_lower};
-ghost use Rattle.aip_io.specs.Causes.{Rose};
+ghost use Rattle.aip_io.specs.Causes.{ReadsOnly};
 ghost use Rattle.lms_core.specs.Tree.{Key as MadeKey};
 ghost use Rattle.lease_disk.specs.Images.{OnlyLooks};
-ghost use Rattle.lease_disk.specs.Causes.{HasCause as DiskHasCause};
+ghost use Rattle.fault_counts.specs.Causes.{HasCause, Rose};
 ghost use Rattle.leaf_lease.specs.Format.{FormatSays, format_failed, formatted_disk, is_already};
 ghost use Rattle.std.specs.Option.{ForSome};
 ghost use Rattle.aip_topo.specs.declared.topology.Domain.{Domain as NamedDomain};
-ghost use Rattle.aip_sim.specs.Causes.{HasCause, ReadsOnly};
 ghost use Rattle.aip_top.specs.Commands.{KeepsLeases, LeaseOf};
-ghost use Rattle.aip_top.specs.Judged.{IsEarly, Judges};
+ghost use Rattle.aip_top.specs.Judged.{IsEarly, JudgesCommand};
 ghost use Rattle.aip_top.specs.Leasing.{Formats, HasFresh, IsBeforeDisk, IsFormatted, KeepsOpen, LeaseSays, OfKey, asked_in, asked_of, asked_of_key, lease_text, refusal_in};
 ghost use Rattle.aip_top.specs.Statuses.{kind_of};
 ghost use Rattle.aip_top.specs.Wanted.{IsWanted, Wants};
@@ -21,14 +20,14 @@ ghost use Rattle.aip_top.specs.Written.{WritesOnDone};
 use crate::status::{LeaseFault, Status};
 use crate::topology::topology_under;
 use crate::writing::put_text;
-use aip_addr::{Memory, Name};
+use aip_addr::Name;
 use aip_io::{Shelf, Sink};
 use aip_text::{push_hex, push_number, push_space, push_text};
 use aip_topo::{Domain, Key, Topology};
 use leaf_lease::{FormatEnd, format};
 use lease_disk::Disk;
 use lms_core::Tree;
-use std::alloc::Global;
+use std::alloc::{AllocError, Global};
 
 /// What a lease wants of the disk, and its line.
 #[derive(Drop)]
@@ -41,7 +40,7 @@ pub struct Wanted {
     pub text: Vec<u8>,
 }
 
-fn line_of(alloc: Global, id: &[u8], height: u8) -> Result<Vec<u8>, Memory>
+fn line_of(alloc: Global, id: &[u8], height: u8) -> Result<Vec<u8>, AllocError>
     ensures { IfOk result (λ text. text.items
         ≡ codes "lease" ++ (32 ∷ (encode_lower id.now ++ (32 ∷ (decimal height ++ 10 ∷ []))))) }
 {
@@ -56,7 +55,7 @@ fn line_of(alloc: Global, id: &[u8], height: u8) -> Result<Vec<u8>, Memory>
 }
 
 // What a lease of this key wants.
-fn wanted_of(alloc: Global, tree: &Tree) -> Result<Wanted, Memory>
+fn wanted_of(alloc: Global, tree: &Tree) -> Result<Wanted, AllocError>
     ensures { IfOk result (Wants tree.now) }
 {
     let id = tree.id();
@@ -130,7 +129,7 @@ fn format_disk<D: Disk>(disk: D, id: [u8; 16], height: u8) -> Result<D, FormatEn
     ensures fresh { OnOk result (HasFresh D.now D.may_leave id height disk (formatted_disk result)) }
     ensures keeps { KeepsOpen D.may_leave D.clock D.during disk (formatted_disk result) }
     ensures moments { Formats D.now D.may_leave D.clock D.during id height disk (formatted_disk result) }
-    ensures cause { DiskHasCause (D.faults disk) (D.faults (formatted_disk result)) (format_failed result) }
+    ensures cause { HasCause (format_failed result ≡ true) (D.faults disk) (D.faults (formatted_disk result)) }
 {
     format(disk, id, height)
 }
@@ -172,7 +171,7 @@ pub fn lease<S: Shelf, K: Sink, D: Disk>(
         (Rose (S.faults shelf.old topology.now) (S.faults shelf.new topology.now))
         (Rose (K.faults out.old) (K.faults out.new)) (Rose (D.faults disk) (D.faults result.1))
         result.0 disk result.1 (K.taken out.old) (K.taken out.new))) }
-    ensures judged { IfSome (S.text shelf.old topology.now) (λ told. Judges (refusal_in (asked_of told domain.now))
+    ensures judged { IfSome (S.text shelf.old topology.now) (λ told. JudgesCommand (refusal_in (asked_of told domain.now))
         (Rose (S.faults shelf.old topology.now) (S.faults shelf.new topology.now))
         ((out.new ≡ out.old) × (result.1 ≡ disk)) result.0) }
     ensures keeps { KeepsLeases D.now D.may_leave D.clock D.during result.0 disk result.1 }

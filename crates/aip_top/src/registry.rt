@@ -1,14 +1,15 @@
 // The command `registry`: the records of a file that are kept, as text.
 ghost use Rattle.std.specs.Prelude.{◌≡◌, ◌⊎◌, true, false, Some, IfSome, IfOk, IfErr, IsErrOf};
-ghost use Rattle.aip_io.specs.Causes.{Rose};
-ghost use Rattle.aip_sim.specs.Causes.{HasCause, ReadsOnly};
+ghost use Rattle.fault_counts.specs.Causes.{HasCause, Rose};
+ghost use Rattle.aip_io.specs.Causes.{ReadsOnly};
 ghost use Rattle.aip_records.specs.Files.{records_of};
+ghost use Rattle.aip_sim.specs.Runs.{Writes};
 ghost use Rattle.aip_top.specs.Commands.{RegistryOf};
-ghost use Rattle.aip_top.specs.Judged.{IsOrMemory, Judges, refusal_of};
+ghost use Rattle.aip_top.specs.Judged.{IsOrMemory, JudgesCommand, refusal_of};
 ghost use Rattle.aip_top.specs.Listings.{IsListing, IsListingEnd, listing_end, listing_of, listing_text};
 ghost use Rattle.aip_top.specs.Statuses.{kind_of};
 ghost use Rattle.aip_top.specs.Words.{IsNamed, RecordFiles, Registry};
-ghost use Rattle.aip_top.specs.Written.{Writes};
+ghost use Rattle.aip_top.specs.Written.{CutsShort};
 
 use crate::status::Status;
 use crate::topology::topology_under;
@@ -48,7 +49,7 @@ fn put_list<S: Shelf, K: Sink>(
     records: &str,
     out: &mut K,
 ) -> Status
-    ensures writes { IfSome (S.text shelf.old records.now) (λ file. Writes (listing_end (listing_of (records_of topology.now.domains file)))
+    ensures writes { IfSome (S.text shelf.old records.now) (λ file. Writes CutsShort (listing_end (listing_of (records_of topology.now.domains file)))
         (listing_text (listing_of (records_of topology.now.domains file))) result (K.taken out.old) (K.taken out.new)) }
     ensures passed { (kind_of result).refuses ≡ false }
     ensures belongs { (files : RecordFiles) → (kind_of result).answers (Some (Registry files)) ≡ true }
@@ -76,7 +77,7 @@ pub fn registry<S: Shelf, K: Sink>(
         (Rose (S.faults shelf.old topology.now) (S.faults shelf.new topology.now)
         ⊎ Rose (S.faults shelf.old records.now) (S.faults shelf.new records.now))
         (Rose (K.faults out.old) (K.faults out.new)) result (K.taken out.old) (K.taken out.new))) }
-    ensures judged { IfSome (S.text shelf.old topology.now) (λ told. Judges (refusal_of told)
+    ensures judged { IfSome (S.text shelf.old topology.now) (λ told. JudgesCommand (refusal_of told)
         (Rose (S.faults shelf.old topology.now) (S.faults shelf.new topology.now)) (out.new ≡ out.old) result) }
     ensures belongs { (kind_of result).answers (Some (Registry (record { topology = topology.now; records = records.now }))) ≡ true }
     ensures quiet { (kind_of result).writes (Some (Registry (record { topology = topology.now; records = records.now }))) ≡ false

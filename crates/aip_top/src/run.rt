@@ -1,10 +1,10 @@
 // The command `run`.
 ghost use Rattle.std.specs.Prelude.{◌≡◌, ◌⊎◌, Some, IfSome, option_map, is_some, true, false};
-ghost use Rattle.aip_io.specs.Causes.{Rose};
-ghost use Rattle.aip_sim.specs.Causes.{HasCause, ReadsOnly};
+ghost use Rattle.fault_counts.specs.Causes.{HasCause, Rose};
+ghost use Rattle.aip_io.specs.Causes.{ReadsOnly};
 ghost use Rattle.aip_sim.specs.Judged.{end_by};
 ghost use Rattle.aip_top.specs.Commands.{RunOf};
-ghost use Rattle.aip_top.specs.Judged.{Judges};
+ghost use Rattle.aip_top.specs.Judged.{JudgesCommand};
 ghost use Rattle.aip_top.specs.Statuses.{kind_of, status_of_run};
 ghost use Rattle.aip_top.specs.Words.{IsNamed, Run};
 
@@ -26,7 +26,7 @@ pub fn run<S: Shelf, K: Sink>(
         (Rose (S.faults shelf.old topology.now) (S.faults shelf.new topology.now)
         ⊎ Rose (S.faults shelf.old schedule.now) (S.faults shelf.new schedule.now))
         (Rose (K.faults out.old) (K.faults out.new)) result.0 result.1 (K.taken out.old) (K.taken out.new))) }
-    ensures judged { IfSome (S.text shelf.old topology.now) (λ told. Judges (option_map status_of_run (end_by told))
+    ensures judged { IfSome (S.text shelf.old topology.now) (λ told. JudgesCommand (option_map status_of_run (end_by told))
         (Rose (S.faults shelf.old topology.now) (S.faults shelf.new topology.now)) (out.new ≡ out.old) result.0) }
     ensures belongs { (kind_of result.0).answers (Some (Run (record { topology = topology.now; schedule = schedule.now }))) ≡ true }
     ensures quiet { (kind_of result.0).writes (Some (Run (record { topology = topology.now; schedule = schedule.now }))) ≡ false

@@ -1,13 +1,13 @@
 ghost use Rattle.std.specs.Prelude.{◌≡◌};
 ghost use Rattle.aip_top.specs.Statuses.{exit_code_of};
 
-use aip_addr::Memory;
 use aip_make::MadeEnd;
 use aip_records::{RecordFault, RecordsEnd};
 use aip_rules::StepFault;
 use aip_sim::{RunEnd, TopologyEnd};
 use aip_topo::TopoFault;
 use record_signer::SigningFault;
+use std::alloc::AllocError;
 
 /// Why a lease or a record is refused.
 #[derive(Clone, Copy, Debug, PartialEq, Eq)]
@@ -111,13 +111,13 @@ impl Status {
     }
 }
 
-impl From<Memory> for Status {
+impl From<AllocError> for Status {
     ghost use Rattle.std.specs.Prelude.{◌≡◌};
     ghost use Rattle.aip_top.specs.declared.status.Status.TheVariants.{Memory};
 
     ghost from_gives = { λ _ status. status ≡ Memory };
 
-    fn from(_: Memory) -> Self {
+    fn from(_: AllocError) -> Self {
         Status::Memory
     }
 }

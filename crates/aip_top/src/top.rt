@@ -1,10 +1,10 @@
 // The top call, and the commands that it obeys.
 ghost use Rattle.std.specs.Prelude.{◌≡◌, ◌↔◌, ◌⊎◌, None, true, false, is_some, IfSome};
-ghost use Rattle.aip_io.specs.Causes.{Rose};
+ghost use Rattle.fault_counts.specs.Causes.{HasCause, Rose};
+ghost use Rattle.aip_io.specs.Causes.{ReadsOnly};
 ghost use Rattle.aip_rules.specs.Promises.{ForwardsAreJustified, GuardsAreSilent, HoldsOfRun, NoLeafSignsTwice};
-ghost use Rattle.aip_sim.specs.Causes.{HasCause, ReadsOnly};
 ghost use Rattle.aip_top.specs.Commands.{AddressOf, KeepsLeases, LeaseOf, MakeOf, RecordOf, RegistryOf, RunOf};
-ghost use Rattle.aip_top.specs.Judged.{end_by, Judges};
+ghost use Rattle.aip_top.specs.Judged.{end_by, JudgesCommand};
 ghost use Rattle.aip_top.specs.Leasing.{OfItsKey};
 ghost use Rattle.aip_top.specs.Recording.{KeepsRecords, OfItsDraft};
 ghost use Rattle.aip_top.specs.Statuses.{kind_of};
@@ -63,7 +63,7 @@ pub fn aip<S: Shelf, K: Sink, D: Disk>(
 
     // A topology text that by itself ends the command ends it so, but for want of memory and a counted fault of reading it.
     ensures topology { IfSome (spelled words.now) (λ command. IfSome (topology_in command) (λ name.
-        IfSome (S.text shelf.old name) (λ told. Judges (end_by command told)
+        IfSome (S.text shelf.old name) (λ told. JudgesCommand (end_by command told)
         (Rose (S.faults shelf.old name) (S.faults shelf.new name)) ((out.new ≡ out.old) × (result.1 ≡ disk)) result.0))) }
 
     // Where what a command reads is told: how it ends, what it writes, and that it comes to its end where nothing fails.

@@ -1,7 +1,7 @@
 // The topology that a command names.
 ghost use Rattle.std.specs.Prelude.{◌≡◌, ℕ, List, IfSome, IfOk, IfErr, IsErrOf};
 ghost use Rattle.aip_topo.specs.Sound.{IsSound};
-ghost use Rattle.aip_sim.specs.Causes.{ReadsOnly};
+ghost use Rattle.aip_io.specs.Causes.{ReadsOnly};
 ghost use Rattle.aip_top.specs.Judged.{IsTopologyOf, IsOpeningEnd};
 
 use crate::status::Status;

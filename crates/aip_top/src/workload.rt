@@ -1,7 +1,6 @@
 // The command `make`: the summary of a made workload, as text.
 ghost use Rattle.std.specs.Prelude.{◌≡◌, ◌≢◌, true, false, Some, IfErr};
-ghost use Rattle.aip_io.specs.Causes.{Rose};
-ghost use Rattle.aip_sim.specs.Causes.{HasCause};
+ghost use Rattle.fault_counts.specs.Causes.{HasCause, Rose};
 ghost use Rattle.aip_top.specs.Commands.{MakeOf};
 ghost use Rattle.aip_top.specs.Statuses.{kind_of};
 ghost use Rattle.aip_top.specs.Words.{Make};

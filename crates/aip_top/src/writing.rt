@@ -1,6 +1,6 @@
 // Writing what a command writes.
 ghost use Rattle.std.specs.Prelude.{◌≡◌, ◌⊎◌};
-ghost use Rattle.aip_sim.specs.Causes.{HasCause};
+ghost use Rattle.fault_counts.specs.Causes.{HasCause};
 ghost use Rattle.aip_top.specs.Leasing.{IsFormatted};
 ghost use Rattle.aip_top.specs.Written.{WritesOnDone};
 

@@ -7,14 +7,14 @@ use Rattle.hex.specs.Hex.{encode_lower}
 use Rattle.aip_addr.specs.Naming.{IsName}
 use Rattle.aip_addr.specs.declared.ids.Id.{Id}
 use Rattle.aip_text.specs.Fields.{id_of, name_of, named, ◌>>=◌}
-use Rattle.aip_text.specs.Words.{cut, hex_sized, lacks, number_of}
+use Rattle.aip_text.specs.Words.{cut, hex_sized, lacks, number_of, IsNumber}
 use Rattle.aip_text.proofs.HexWords.{hex_sized_again, hex_sized_found}
 use Rattle.aip_text.proofs.FieldLaws.{name_field, number_field}
 use Rattle.aip_text.proofs.LineForms.{Field, bind_at, bind_some, branch, named_found}
 use Rattle.aip_text.proofs.Texts.{cut_at_again, cut_at_found}
 use Rattle.lmots_core.specs.declared.parameters.Width.TheVariants.{W1, W2, W4, W8}
 use Rattle.lms_core.specs.declared.height.Height.TheVariants.{H5, H10}
-use Rattle.aip_topo.specs.Lines.{IsAdOrigin, IsEidOrigin, IsLine, IsNumber, IsSized, ad_words, eid_words, guard_word, height_word, kind_word, line_text, setting_word, trust_word, width_word, ◌␣◌}
+use Rattle.aip_topo.specs.Lines.{IsAdOrigin, IsEidOrigin, IsLine, IsSized, ad_words, eid_words, guard_word, height_word, kind_word, line_text, setting_word, trust_word, width_word, ◌␣◌}
 use Rattle.aip_topo.specs.LineReading.{ad_in, ad_seed_in, all_heights, all_settings, all_widths, also, both, domain_in, eid_in, eid_seed_in, host_in, line_by, line_in, link_in, origin_by, router_in, set_in}
 use Rattle.aip_topo.specs.declared.lines.Line.{Line}
 use Rattle.aip_topo.specs.declared.lines.Line.TheVariants as line

@@ -2,6 +2,7 @@
 use Rattle.std.specs.Prelude.{◌≡◌, ℕ, ◌<◌, ◌^◌, Bool, true, false, List, ◌∷◌, ◌++◌, length, codes, decimal, ⊤}
 use Rattle.hex.specs.Hex.{IsBytes, encode_lower}
 use Rattle.aip_addr.specs.Naming.{IsName}
+use Rattle.aip_text.specs.Words.{IsNumber}
 use Rattle.lmots_core.specs.declared.parameters.Width.{Width}
 use Rattle.lmots_core.specs.declared.parameters.Width.TheVariants.{W1, W2, W4, W8}
 use Rattle.lms_core.specs.declared.height.Height.{Height}
@@ -80,10 +81,6 @@ line_text (line.Host name router guarded from) = codes "host" ␣ name ␣ route
 line_text (line.Link a b a_trusts b_trusts) = codes "link" ␣ a ␣ b ␣ trust_word a_trusts ␣ trust_word b_trusts
 
 -- ## What a line may say
-
--- a number of at most 15 digits
-abbrev pub IsNumber : ℕ → Type 0
-IsNumber n = n < 10 ^ 15
 
 -- so many bytes
 abbrev pub IsSized : ℕ → List ℕ → Type 0

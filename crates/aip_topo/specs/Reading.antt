@@ -1,6 +1,6 @@
 -- The topology that a text gives, or the first line that is refused, with its first fault.
 use Rattle.std.specs.Prelude.{◌≡◌, ℕ, ◌+◌, ◌||◌, min, nat_lt, Bool, false, List, [], ◌∷◌, length, replicate, if◌then◌else◌, Option, Some, None, Result, Ok, Err}
-use Rattle.aip_text.specs.Lines.{lines_of, is_skipped, has_carriage_return}
+use Rattle.aip_text.specs.Lines.{lines_of, is_skipped, has_carriage_return, most_line_bytes}
 use Rattle.aip_topo.specs.LineReading.{line_in}
 use Rattle.aip_topo.specs.Steps.{default_of, settings_with, with_line}
 use Rattle.aip_topo.specs.declared.faults.TopoFault.{TopoFault}
@@ -21,9 +21,13 @@ abbrev pub empty_draft : Draft
 empty_draft =
     record { topology = record { settings = default_settings; domains = []; routers = []; parts = [] }; given = replicate 8 false }
 
+-- the most bytes of a text whose lines are taken, line feeds included
+abbrev pub most_text : ℕ
+most_text = 1048576
+
 -- a line has more than 20,000 bytes, or it or its line feed ends past the first 1,048,576 bytes of the text
 abbrev pub is_long : ℕ → List ℕ → Bool
-is_long ending text = nat_lt 20000 (length text) || nat_lt 1048576 ending
+is_long ending text = nat_lt most_line_bytes (length text) || nat_lt most_text ending
 
 -- why a text gives no topology: the number of its first line that is refused, from 1, and that line's first fault
 pub record RefusedLine : Type 0 where

@@ -6,9 +6,9 @@ use crate::judging::{domain_place, router_place};
 use crate::lines::{Line, Origin, Setting};
 use crate::lists::{Domains, Routers};
 use crate::topology::{Domain, HostPart, Key, LinkPart, Part, Router, Topology};
-use aip_addr::{Address, Id, Memory, Name};
+use aip_addr::{Address, Id, Name};
 use lms_core::Tree;
-use std::alloc::Global;
+use std::alloc::{AllocError, Global};
 
 /// What a line adds to a topology, with its id and its key.
 #[derive(Drop)]
@@ -36,7 +36,7 @@ struct KeyedId {
 }
 
 // Makes the key that a line gives, where it gives one. The only error is want of memory.
-fn keyed(alloc: Global, origin: &Origin) -> Result<KeyedId, Memory>
+fn keyed(alloc: Global, origin: &Origin) -> Result<KeyedId, AllocError>
     requires { is_no_eid origin.now ≡ false }
     ensures { IfOk result (λ keyed. (keyed.id ≡ id_from origin.now) × (keyed.key ≡ key_of origin.now)) }
 {
@@ -70,7 +70,7 @@ fn ad_or_zeros(domains: &Domains, place: u16) -> Id
     }
 }
 
-fn domain_of(alloc: Global, name: Name, origin: &Origin) -> Result<Domain, Memory>
+fn domain_of(alloc: Global, name: Name, origin: &Origin) -> Result<Domain, AllocError>
     requires { is_no_ad origin.now ≡ false }
     ensures { IfOk result (λ domain. (domain.name ≡ name) × (domain.ad ≡ id_from origin.now) × (domain.key ≡ key_of origin.now)) }
 {
@@ -115,7 +115,7 @@ pub(crate) fn addition_of(
     alloc: Global,
     topology: &Topology,
     line: &Line,
-) -> Result<Addition, Memory>
+) -> Result<Addition, AllocError>
     requires { is_out_of_range line.now ≡ false }
     ensures { IfOk result (λ addition. addition ≡ addition_of topology.now line.now) }
 {

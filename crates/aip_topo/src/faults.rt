@@ -1,6 +1,6 @@
 ghost use Rattle.std.specs.Prelude.{◌≡◌};
 
-use aip_addr::Memory;
+use std::alloc::AllocError;
 use thiserror::Error;
 
 /// Why a line of a topology is refused.
@@ -64,12 +64,12 @@ pub enum TopoEnd {
     Memory,
 }
 
-impl From<Memory> for TopoEnd {
+impl From<AllocError> for TopoEnd {
     ghost use Rattle.aip_topo.specs.declared.faults.TopoEnd.TheVariants as end;
 
     ghost from_gives = { λ _ e. e ≡ end.Memory };
 
-    fn from(_: Memory) -> TopoEnd {
+    fn from(_: AllocError) -> TopoEnd {
         TopoEnd::Memory
     }
 }

@@ -2,8 +2,7 @@ ghost use Rattle.std.specs.Prelude.{◌≡◌, ◌<◌, ◌≤◌, [], ◌∷◌
 ghost use Rattle.aip_topo.specs.Parts.{has_room, is_host, is_link};
 
 use crate::topology::{Domain, Part, Router};
-use aip_addr::Memory;
-use std::alloc::Global;
+use std::alloc::{AllocError, Global};
 use std::marker::Model;
 
 /// The most domains that a topology has.
@@ -54,7 +53,7 @@ impl Domains {
     }
 
     /// Adds a domain behind the others. The only error is want of memory, and then nothing changes.
-    pub fn push(&mut self, domain: Domain) -> Result<(), Memory>
+    pub fn push(&mut self, domain: Domain) -> Result<(), AllocError>
         requires { length self.old < 64 }
         ensures ok { OnOk result (self.new ≡ self.old ++ domain ∷ []) }
         ensures err { OnErr result (self.new ≡ self.old) }
@@ -100,7 +99,7 @@ impl Routers {
     }
 
     /// Adds a router behind the others. The only error is want of memory, and then nothing changes.
-    pub fn push(&mut self, router: Router) -> Result<(), Memory>
+    pub fn push(&mut self, router: Router) -> Result<(), AllocError>
         requires { length self.old < 256 }
         ensures ok { OnOk result (self.new ≡ self.old ++ router ∷ []) }
         ensures err { OnErr result (self.new ≡ self.old) }
@@ -175,7 +174,7 @@ impl Parts {
 
     /// Adds a host or a link behind the others. The only error is want of memory, and then nothing
     /// changes.
-    pub fn push(&mut self, part: Part) -> Result<(), Memory>
+    pub fn push(&mut self, part: Part) -> Result<(), AllocError>
         requires { IsTrue (has_room self.old part) }
         ensures ok { OnOk result (self.new ≡ self.old ++ part ∷ []) }
         ensures err { OnErr result (self.new ≡ self.old) }

@@ -2,22 +2,22 @@ ghost use Rattle.std.specs.Prelude.{◌≡◌, ◌<◌, ◌≤◌, ◌+◌, ℕ,
 ghost use Rattle.aip_text.specs.Lines.{lines_of};
 ghost use Rattle.aip_topo.specs.Meaning.{IsSaid};
 ghost use Rattle.aip_topo.specs.Sound.{IsSound};
-ghost use Rattle.aip_topo.specs.Reading.{Tells, empty_draft, is_long, topology_of, with_lines, with_text};
+ghost use Rattle.aip_topo.specs.Reading.{Tells, empty_draft, is_long, topology_of, with_lines, with_text, most_text};
 
 use crate::faults::{TopoEnd, TopoFault};
 use crate::line_reader::read_line;
 use crate::lists::{Domains, Parts, Routers};
 use crate::steps::{Draft, refused, take};
 use crate::topology::{Settings, Topology};
-use aip_text::{LONGEST_LINE, has_carriage_return, is_skipped, next_line};
+use aip_text::{MOST_LINE_BYTES, has_carriage_return, is_skipped, next_line};
 use std::alloc::Global;
 
 /// The most bytes of a text whose lines are taken, line feeds included.
-const LONGEST_TEXT: usize = 1_048_576;
+const MOST_TEXT: usize = 1_048_576;
 
 /// How many bytes of a text decide what it gives: `read` of the first so many bytes of a longer text
 /// gives what it gives for the whole text.
-pub const MOST_READ: usize = LONGEST_TEXT + 1;
+pub const MOST_READ: usize = MOST_TEXT + 1;
 
 /// The topology that the text gives, with the trees of the keys that its seeds make. A refusal names
 /// the first line that is refused, with the first fault that applies to it. A text of `MOST_READ`
@@ -27,7 +27,7 @@ pub fn read(alloc: Global, text: &[u8]) -> Result<Topology, TopoEnd>
     ensures sound { IfOk result IsSound }
     ensures said { IfOk result (IsSaid text.now) }
     ensures refused { IfErr result (λ end. Tells end (topology_of text.now)) }
-    ensures decided { (whole : List ℕ) → text.now ≡ take 1048577 whole → topology_of whole ≡ topology_of text.now }
+    ensures decided { (whole : List ℕ) → text.now ≡ take (most_text + 1) whole → topology_of whole ≡ topology_of text.now }
 {
     read_exactly(alloc, text)
 }
@@ -92,7 +92,7 @@ fn read_text(
 ) -> Result<(), TopoEnd>
     ensures ok { OnOk result (with_text number ending draft.old text.now ≡ Ok draft.new) }
     ensures err { IfErr result (λ end. Tells end (with_text number ending draft.old text.now)) }
-    ensures short { OnOk result (ending ≤ 1048576) }
+    ensures short { OnOk result (ending ≤ most_text) }
 {
     if is_long(ending, text) {
         return Err(refused(number, TopoFault::Long));
@@ -112,5 +112,5 @@ fn read_text(
 fn is_long(ending: usize, text: &[u8]) -> bool
     ensures { result ≡ is_long ending text.now }
 {
-    text.len() > LONGEST_LINE || ending > LONGEST_TEXT
+    text.len() > MOST_LINE_BYTES || ending > MOST_TEXT
 }

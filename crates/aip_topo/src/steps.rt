@@ -7,8 +7,7 @@ use crate::faults::{TopoEnd, TopoFault};
 use crate::judging::{is_many, is_out_of_range, is_twice, is_unknown};
 use crate::lines::{Line, Setting};
 use crate::topology::{Settings, Topology};
-use aip_addr::Memory;
-use std::alloc::Global;
+use std::alloc::{AllocError, Global};
 
 /// A topology as far as its text was read.
 #[derive(Drop)]
@@ -129,7 +128,7 @@ pub(crate) fn refused(line: u32, fault: TopoFault) -> TopoEnd
 }
 
 // Adds to the draft what a line gave. The only error is want of memory.
-fn add(draft: &mut Draft, addition: Addition) -> Result<(), Memory>
+fn add(draft: &mut Draft, addition: Addition) -> Result<(), AllocError>
     requires { IsTrue (fits draft.old.topology addition) }
     ensures { OnOk result (draft.new ≡ draft_with draft.old addition) }
 {

@@ -1,8 +1,7 @@
 use super::*;
-use aip_addr::Memory;
 use aip_text::{push_hex, push_number, push_text, read_hex_array};
 use lms_core::Width;
-use std::alloc::Global;
+use std::alloc::{AllocError, Global};
 use std::test::Fail;
 
 /// A network of one domain, one router and two hosts.
@@ -156,7 +155,7 @@ fn ids_of_others(rt: HostRuntime) -> Result<(), Fail> {
 }
 
 // So many domains, and then one more line.
-fn domains_and(alloc: Global, count: u8, line: &[u8]) -> Result<Vec<u8>, Memory> {
+fn domains_and(alloc: Global, count: u8, line: &[u8]) -> Result<Vec<u8>, AllocError> {
     let mut text = Vec::new(alloc);
     for i in 0..count {
         push_text(&mut text, b"domain d")?;

@@ -8,22 +8,22 @@ ghost use Rattle.aip_topo.specs.Sound.{IsSound};
 use crate::lines::{Line, Setting};
 use crate::topology::{Domain, HostPart, Key, LinkPart, Part, Router, Settings, Topology};
 use crate::words::{guard_word, height_word, kind_word, setting_word, trust_word, width_word};
-use aip_addr::{Bytes, Id, Memory};
+use aip_addr::{Bytes, Id};
 use aip_text::{push_hex, push_number, push_space, push_text, push_word};
 use lms_core::Tree;
-use std::alloc::Global;
+use std::alloc::{AllocError, Global};
 
 /// The canonical text of the topology: the eight settings, the domains, the routers, then the hosts
 /// and links in their order. The text of a sound topology, as `read` gives them, is read as that
 /// topology. The only error is want of memory.
-pub fn write(alloc: Global, topology: &Topology) -> Result<Bytes, Memory>
+pub fn write(alloc: Global, topology: &Topology) -> Result<Bytes, AllocError>
     ensures spelling { IfOk result (λ text. text ≡ canonical_text topology.now) }
     ensures read_back { IfOk result (λ text. IsSound topology.now → topology_of text ≡ Ok topology.now) }
 {
     write_exactly(alloc, topology)
 }
 
-fn write_exactly(alloc: Global, topology: &Topology) -> Result<Bytes, Memory>
+fn write_exactly(alloc: Global, topology: &Topology) -> Result<Bytes, AllocError>
     ensures { IfOk result (λ text. text ≡ canonical_text topology.now) }
 {
     let mut out = Vec::new(alloc);
@@ -37,7 +37,7 @@ fn write_exactly(alloc: Global, topology: &Topology) -> Result<Bytes, Memory>
 }
 
 #[tactic(auto, unfolding(crate::specs::Canonical::settings_text))]
-fn write_settings(out: &mut Vec<u8>, settings: &Settings) -> Result<(), Memory>
+fn write_settings(out: &mut Vec<u8>, settings: &Settings) -> Result<(), AllocError>
     ensures { OnOk result (out.new.items ≡ out.old.items ++ settings_text settings.now) }
 {
     let values = values_of(settings);
@@ -59,7 +59,7 @@ fn values_of(settings: &Settings) -> [(Setting, u64); 8]
     ]
 }
 
-fn write_values(out: &mut Vec<u8>, values: &[(Setting, u64)]) -> Result<(), Memory>
+fn write_values(out: &mut Vec<u8>, values: &[(Setting, u64)]) -> Result<(), AllocError>
     ensures { OnOk result (out.new.items ≡ out.old.items ++ lines_text value_line values.now) }
 {
     for value in values {
@@ -68,7 +68,7 @@ fn write_values(out: &mut Vec<u8>, values: &[(Setting, u64)]) -> Result<(), Memo
     Ok(())
 }
 
-fn write_value(out: &mut Vec<u8>, setting: Setting, value: u64) -> Result<(), Memory>
+fn write_value(out: &mut Vec<u8>, setting: Setting, value: u64) -> Result<(), AllocError>
     ensures { OnOk result (out.new.items ≡ out.old.items ++ (line_text (Line.Set setting value) ++ 10 ∷ [])) }
 {
     push_text(out, b"set")?;
@@ -79,14 +79,14 @@ fn write_value(out: &mut Vec<u8>, setting: Setting, value: u64) -> Result<(), Me
 }
 
 // Appends a space and the bytes in hex.
-fn push_hex_word(out: &mut Vec<u8>, bytes: &[u8]) -> Result<(), Memory>
+fn push_hex_word(out: &mut Vec<u8>, bytes: &[u8]) -> Result<(), AllocError>
     ensures { OnOk result (out.new.items ≡ out.old.items ++ 32 ∷ encode_lower bytes.now) }
 {
     push_space(out)?;
     push_hex(out, bytes)
 }
 
-fn write_domains(out: &mut Vec<u8>, domains: &[Domain]) -> Result<(), Memory>
+fn write_domains(out: &mut Vec<u8>, domains: &[Domain]) -> Result<(), AllocError>
     ensures { OnOk result (out.new.items ≡ out.old.items ++ lines_text domain_line domains.now) }
 {
     for domain in domains {
@@ -95,7 +95,7 @@ fn write_domains(out: &mut Vec<u8>, domains: &[Domain]) -> Result<(), Memory>
     Ok(())
 }
 
-fn write_domain(out: &mut Vec<u8>, domain: &Domain) -> Result<(), Memory>
+fn write_domain(out: &mut Vec<u8>, domain: &Domain) -> Result<(), AllocError>
     ensures { OnOk result (out.new.items ≡ out.old.items ++ (line_text (domain_line domain.now) ++ 10 ∷ [])) }
 {
     push_text(out, b"domain")?;
@@ -106,7 +106,7 @@ fn write_domain(out: &mut Vec<u8>, domain: &Domain) -> Result<(), Memory>
 }
 
 // Appends `seed`, the width and the height.
-fn push_seed(out: &mut Vec<u8>, tree: &Tree) -> Result<(), Memory>
+fn push_seed(out: &mut Vec<u8>, tree: &Tree) -> Result<(), AllocError>
     ensures { OnOk result (out.new.items ≡ out.old.items ++ (codes "seed" ␣ width_word tree.now.width ␣ height_word tree.now.height)) }
 {
     push_text(out, b"seed")?;
@@ -115,7 +115,7 @@ fn push_seed(out: &mut Vec<u8>, tree: &Tree) -> Result<(), Memory>
 }
 
 // Appends how a domain's id is given.
-fn push_ad(out: &mut Vec<u8>, key: &Key, ad: &Id) -> Result<(), Memory>
+fn push_ad(out: &mut Vec<u8>, key: &Key, ad: &Id) -> Result<(), AllocError>
     ensures { OnOk result (out.new.items ≡ out.old.items ++ ad_words (ad_origin key.now ad.now)) }
 {
     match key {
@@ -131,7 +131,7 @@ fn push_ad(out: &mut Vec<u8>, key: &Key, ad: &Id) -> Result<(), Memory>
 }
 
 // Appends how a host's id is given.
-fn push_eid(out: &mut Vec<u8>, key: &Key, eid: &Id) -> Result<(), Memory>
+fn push_eid(out: &mut Vec<u8>, key: &Key, eid: &Id) -> Result<(), AllocError>
     ensures { OnOk result (out.new.items ≡ out.old.items ++ eid_words (eid_origin key.now eid.now)) }
 {
     match key {
@@ -166,7 +166,11 @@ fn router_name(routers: &[Router], place: u16) -> &[u8]
     }
 }
 
-fn write_routers(out: &mut Vec<u8>, domains: &[Domain], routers: &[Router]) -> Result<(), Memory>
+fn write_routers(
+    out: &mut Vec<u8>,
+    domains: &[Domain],
+    routers: &[Router],
+) -> Result<(), AllocError>
     ensures { OnOk result (out.new.items ≡ out.old.items ++ lines_text (router_line domains.now) routers.now) }
 {
     for router in routers {
@@ -175,7 +179,7 @@ fn write_routers(out: &mut Vec<u8>, domains: &[Domain], routers: &[Router]) -> R
     Ok(())
 }
 
-fn write_router(out: &mut Vec<u8>, domains: &[Domain], router: &Router) -> Result<(), Memory>
+fn write_router(out: &mut Vec<u8>, domains: &[Domain], router: &Router) -> Result<(), AllocError>
     ensures { OnOk result (out.new.items ≡ out.old.items ++ (line_text (router_line domains.now router.now) ++ 10 ∷ [])) }
 {
     push_text(out, b"router")?;
@@ -186,7 +190,7 @@ fn write_router(out: &mut Vec<u8>, domains: &[Domain], router: &Router) -> Resul
     push_text(out, b"\n")
 }
 
-fn write_parts(out: &mut Vec<u8>, routers: &[Router], parts: &[Part]) -> Result<(), Memory>
+fn write_parts(out: &mut Vec<u8>, routers: &[Router], parts: &[Part]) -> Result<(), AllocError>
     ensures { OnOk result (out.new.items ≡ out.old.items ++ lines_text (part_line routers.now) parts.now) }
 {
     for part in parts {
@@ -195,7 +199,7 @@ fn write_parts(out: &mut Vec<u8>, routers: &[Router], parts: &[Part]) -> Result<
     Ok(())
 }
 
-fn write_part(out: &mut Vec<u8>, routers: &[Router], part: &Part) -> Result<(), Memory>
+fn write_part(out: &mut Vec<u8>, routers: &[Router], part: &Part) -> Result<(), AllocError>
     ensures { OnOk result (out.new.items ≡ out.old.items ++ (line_text (part_line routers.now part.now) ++ 10 ∷ [])) }
 {
     match part {
@@ -204,7 +208,7 @@ fn write_part(out: &mut Vec<u8>, routers: &[Router], part: &Part) -> Result<(), 
     }
 }
 
-fn write_host(out: &mut Vec<u8>, routers: &[Router], host: &HostPart) -> Result<(), Memory>
+fn write_host(out: &mut Vec<u8>, routers: &[Router], host: &HostPart) -> Result<(), AllocError>
     ensures { OnOk result (out.new.items ≡ out.old.items ++ (line_text (part_line routers.now (Part.Host host.now)) ++ 10 ∷ [])) }
 {
     push_text(out, b"host")?;
@@ -216,7 +220,7 @@ fn write_host(out: &mut Vec<u8>, routers: &[Router], host: &HostPart) -> Result<
     push_text(out, b"\n")
 }
 
-fn write_link(out: &mut Vec<u8>, routers: &[Router], link: &LinkPart) -> Result<(), Memory>
+fn write_link(out: &mut Vec<u8>, routers: &[Router], link: &LinkPart) -> Result<(), AllocError>
     ensures { OnOk result (out.new.items ≡ out.old.items ++ (line_text (part_line routers.now (Part.Link link.now)) ++ 10 ∷ [])) }
 {
     push_text(out, b"link")?;

@@ -13,7 +13,7 @@ ghost use Rattle.accept_cache.specs.Keys.{pair_of, wildcard_of};
 ghost use Rattle.accept_cache.specs.Kept.{has_fresh, has_fresh_wild, after_hit, after_hit_wild};
 ghost use Rattle.accept_cache.specs.Recency.{Hit};
 ghost use Rattle.accept_cache.specs.Accepted.{PairUses, WildcardUses, is_fresh_pair, is_fresh_wildcard};
-ghost use Rattle.accept_cache.specs.StandsFor.{StandsFor};
+ghost use Rattle.accept_cache.specs.StandsFor.{CacheStandsFor};
 ghost use Rattle.border_check.specs.Verdict.{port_verdict, leads_back, is_proved, is_wild};
 
 use accept_cache::AcceptCache;
@@ -53,11 +53,11 @@ pub fn border(
     ensures limits { cache.new.limits ≡ cache.old.limits }
 
     // For the uses that the cache stood for: the first verdict that applies, and what the cache stands for then.
-    ensures by_uses { (uses : PairUses) (wilds : WildcardUses) → StandsFor uses wilds cache.old
+    ensures by_uses { (uses : PairUses) (wilds : WildcardUses) → CacheStandsFor uses wilds cache.old
         → result ≡ port_verdict trusted (leads_back back port)
         (is_fresh_pair cache.old.limits uses now (pair_of source.now port)) (is_fresh_wildcard cache.old.limits wilds now (wildcard_of source.now.ad port)) }
-    ensures stands { (uses : PairUses) (wilds : WildcardUses) → StandsFor uses wilds cache.old
-        → StandsFor (cond (is_proved result) (Hit (pair_of source.now port) ∷ uses) uses)
+    ensures stands { (uses : PairUses) (wilds : WildcardUses) → CacheStandsFor uses wilds cache.old
+        → CacheStandsFor (cond (is_proved result) (Hit (pair_of source.now port) ∷ uses) uses)
         (cond (is_wild result) (Hit (wildcard_of source.now.ad port) ∷ wilds) wilds) cache.new }
 {
     if trusted {

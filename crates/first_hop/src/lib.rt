@@ -15,7 +15,7 @@ ghost use Rattle.accept_cache.specs.Keys.{same_id, pair_of};
 ghost use Rattle.accept_cache.specs.Kept.{has_fresh, after_hit};
 ghost use Rattle.accept_cache.specs.Recency.{Hit};
 ghost use Rattle.accept_cache.specs.Accepted.{PairUses, WildcardUses, is_fresh_pair};
-ghost use Rattle.accept_cache.specs.StandsFor.{StandsFor};
+ghost use Rattle.accept_cache.specs.StandsFor.{CacheStandsFor};
 ghost use Rattle.first_hop.specs.Verdict.{host_verdict, is_proved};
 
 use accept_cache::AcceptCache;
@@ -49,10 +49,10 @@ pub fn first_hop(
     ensures limits { cache.new.limits ≡ cache.old.limits }
 
     // For the uses that the cache stood for: the first verdict that applies, and what the cache stands for then.
-    ensures by_uses { (uses : PairUses) (wilds : WildcardUses) → StandsFor uses wilds cache.old
+    ensures by_uses { (uses : PairUses) (wilds : WildcardUses) → CacheStandsFor uses wilds cache.old
         → result ≡ host_verdict (not (same_id source.now.ad ad.now)) (is_fresh_pair cache.old.limits uses now (pair_of source.now port)) }
-    ensures stands { (uses : PairUses) (wilds : WildcardUses) → StandsFor uses wilds cache.old
-        → StandsFor (cond (is_proved result) (Hit (pair_of source.now port) ∷ uses) uses) wilds cache.new }
+    ensures stands { (uses : PairUses) (wilds : WildcardUses) → CacheStandsFor uses wilds cache.old
+        → CacheStandsFor (cond (is_proved result) (Hit (pair_of source.now port) ∷ uses) uses) wilds cache.new }
 {
     if source.ad != *ad {
         return HostVerdict::Foreign;

@@ -1,10 +1,10 @@
 // Signing with a leaf that was leased.
-ghost use Rattle.std.specs.Prelude.{◌≡◌, ◌≢◌, ◌+◌, ◌<◌, ◌≤◌, ℕ, List, [], ◌∷◌, length, Some, option_map};
+ghost use Rattle.std.specs.Prelude.{◌≡◌, ◌≢◌, ◌+◌, ◌<◌, ◌≤◌, ℕ, List, [], ◌∷◌, length, Some, option_map, true};
 ghost use Rattle.std.specs.Prelude.{Err, IfOk, OnOk, OnErr, IsTrue, not, ◌||◌, if◌then◌else◌};
 ghost use Rattle.std.specs.Option.{ForSome};
 ghost use Rattle.lease_disk.specs.Call.{Len, Read, Sync};
 ghost use Rattle.lease_disk.specs.Calls.{Ran};
-ghost use Rattle.lease_disk.specs.Causes.{HasCause};
+ghost use Rattle.fault_counts.specs.Causes.{HasCause};
 ghost use Rattle.lease_disk.specs.Images.{overwritten, AtEachMoment};
 ghost use Rattle.lease_disk.specs.Kept.{AfterWrite, KeepsByte, NoLongerThan};
 ghost use Rattle.leaf_lease.specs.Kept.{KeepsGone};
@@ -86,7 +86,7 @@ impl<D: Disk> Signer<D> {
         ensures content { D.now (signer_disk result) ≡ D.now disk }
         ensures firm { OnOk result ((image : List ℕ)
             → D.may_leave (signer_disk result) image → D.now (signer_disk result) ≡ Some image) }
-        ensures cause { HasCause (D.faults disk) (D.faults (signer_disk result)) (signer_failed result) }
+        ensures cause { HasCause (signer_failed result ≡ true) (D.faults disk) (D.faults (signer_disk result)) }
 
         // Each image of each moment is one of those at the start, whatever the answer.
         ensures moments { AtEachMoment D.clock D.during disk (signer_disk result) (D.may_leave disk) }
@@ -137,7 +137,7 @@ impl<D: Disk> Signer<D> {
             → (next_of self ≡ leaves_of (key_of self).height) × (result ≡ Err (SignEnd.Dry self)) }
         ensures none_left { next_of self ≡ leaves_of (key_of self).height
             → IsTrue (is_dry result || is_memory result) }
-        ensures cause { HasCause (D.faults (disk_of self)) (D.faults (signed_disk result)) (sign_failed result) }
+        ensures cause { HasCause (sign_failed result ≡ true) (D.faults (disk_of self)) (D.faults (signed_disk result)) }
 
         // In each image of each moment, whatever the answer: a leaf that was gone is gone, and all other bytes stay.
         ensures moments { AtEachMoment D.clock D.during (disk_of self) (signed_disk result)

@@ -1,8 +1,8 @@
 // Formatting a lease file.
-ghost use Rattle.std.specs.Prelude.{◌≡◌, ◌⊎◌, ◌+◌, ◌^◌, ◌<◌, ◌≤◌, ◌++◌, [], ◌∷◌, ℕ, List, Some, true, false, not, max, length, take, drop, replicate, option_map, is_ok, is_err, OnOk, if◌then◌else◌};
+ghost use Rattle.std.specs.Prelude.{◌≡◌, ◌⊎◌, ◌+◌, ◌^◌, ◌<◌, ◌≤◌, ◌++◌, [], ◌∷◌, ℕ, List, Some, true, false, not, max, length, take, drop, replicate, option_map, is_ok, OnOk, if◌then◌else◌, IsErr};
 ghost use Rattle.std.specs.Option.{ForSome};
 ghost use Rattle.lease_disk.specs.Calls.{Ran};
-ghost use Rattle.lease_disk.specs.Causes.{HasCause};
+ghost use Rattle.fault_counts.specs.Causes.{HasCause};
 ghost use Rattle.lease_disk.specs.Images.{overwritten, OnlyLooks, AtEachMoment};
 ghost use Rattle.leaf_lease.specs.Format.{formatted_disk, format_failed, FormatSays, formatted, is_already, shut_calls, fill_calls, format_calls, WhileFilled, IsClosedBy, IsFresh};
 ghost use Rattle.lease_disk.specs.Kept.{AfterWrite, KeepsByte};
@@ -21,7 +21,7 @@ fn shut_gate<D: Disk>(disk: &mut D, shut: bool) -> Result<(), Failed>
     ensures left_open { shut ≡ false → disk.new ≡ disk.old }
     ensures moments { AtEachMoment D.clock D.during disk.old disk.new (AfterWrite (D.may_leave disk.old) 0 1) }
     ensures clock { D.clock disk.new ≤ D.clock disk.old + 2 }
-    ensures cause { HasCause (D.faults disk.old) (D.faults disk.new) (is_err result) }
+    ensures cause { HasCause (IsErr result) (D.faults disk.old) (D.faults disk.new) }
     ensures calls { Ran D.led disk.old (shut_calls shut) (is_ok result) disk.new }
 {
     if !shut {
@@ -38,7 +38,7 @@ fn fill<D: Disk>(disk: &mut D, rest: &[u8]) -> Result<(), Failed>
     ensures firm { OnOk result ((image : List ℕ) → D.may_leave disk.new image → D.now disk.new ≡ Some image) }
     ensures moments { AtEachMoment D.clock D.during disk.old disk.new (WhileFilled (D.may_leave disk.old) (D.now disk.old) rest.now) }
     ensures clock { D.clock disk.new ≤ D.clock disk.old + 4 }
-    ensures cause { HasCause (D.faults disk.old) (D.faults disk.new) (is_err result) }
+    ensures cause { HasCause (IsErr result) (D.faults disk.old) (D.faults disk.new) }
     ensures calls { Ran D.led disk.old (fill_calls rest.now) (is_ok result) disk.new }
 {
     write_gated(disk, 0, OPEN, rest)
@@ -67,7 +67,7 @@ fn write_fresh<D: Disk>(disk: &mut D, id: [u8; 16], height: u8, shut: bool) -> R
         → ((image : List ℕ) → D.may_leave disk.old image → D.now disk.old ≡ Some image) → IsClosedBy shut file
         → AtEachMoment D.clock D.during disk.old disk.new (IsFresh id height) }
     ensures clock { D.clock disk.new ≤ D.clock disk.old + 6 }
-    ensures cause { HasCause (D.faults disk.old) (D.faults disk.new) (is_err result) }
+    ensures cause { HasCause (IsErr result) (D.faults disk.old) (D.faults disk.new) }
     ensures calls { Ran D.led disk.old (shut_calls shut ++ fill_calls (fresh_rest id height)) (is_ok result) disk.new }
 {
     let mut buffer = [0; LARGEST];
@@ -97,7 +97,7 @@ pub fn format<D: Disk>(disk: D, id: [u8; 16], height: u8) -> Result<D, FormatEnd
     ensures content { OnOk result (D.now (formatted_disk result) ≡ option_map (formatted id height) (D.now disk)) }
     ensures fresh { OnOk result ((image : List ℕ) → D.may_leave (formatted_disk result) image → take (file_size height) image ≡ fresh_file id height) }
     ensures firm { OnOk result ((image : List ℕ) → D.may_leave (formatted_disk result) image → D.now (formatted_disk result) ≡ Some image) }
-    ensures cause { HasCause (D.faults disk) (D.faults (formatted_disk result)) (format_failed result) }
+    ensures cause { HasCause (format_failed result ≡ true) (D.faults disk) (D.faults (formatted_disk result)) }
 
     // Where every image at the start has an open gate, each image of each moment is one of those at the start.
     ensures open_stays { ((image : List ℕ) → D.may_leave disk image → IsOpen image)

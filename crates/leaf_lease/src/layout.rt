@@ -1,6 +1,6 @@
 // How a lease file is laid out.
 ghost use Rattle.std.specs.Prelude.{◌≡◌, ◌≢◌, ◌+◌, ◌^◌, ◌<◌, ◌≤◌, ℕ, List, length, slice_index};
-ghost use Rattle.leaf_lease.specs.LeaseFile.{kept_id};
+ghost use Rattle.leaf_lease.specs.LeaseFile.{file_size, kept_id};
 
 /// The gate of a file that is formatted.
 pub const OPEN: u8 = 0xa5;
@@ -11,6 +11,12 @@ pub const HEAD: usize = 18;
 /// The size of the largest lease file, of a key of height 10.
 pub const LARGEST: usize = 1042;
 
+/// The calls of the disk that write, in one lease: the leaf's byte, and the sync.
+pub const LEASE_CALLS: usize = 2;
+
+/// The bytes that one lease writes.
+pub const LEASE_BYTES: usize = 1;
+
 /// How many leaves a key of that height has.
 pub fn leaf_count(height: u8) -> u32
     requires { height ≤ 10 }
@@ -18,6 +24,15 @@ pub fn leaf_count(height: u8) -> u32
     ensures most { result ≤ 1024 }
 {
     1 << height
+}
+
+/// How many bytes the lease file of a key of that height has.
+pub fn file_size(height: u8) -> usize
+    requires { height ≤ 10 }
+    ensures size { result ≡ file_size height }
+    ensures most { result ≤ 1042 }
+{
+    HEAD + leaf_count(height) as usize
 }
 
 /// The identifier that the file keeps: its bytes 1 to 16.

@@ -3,7 +3,7 @@ ghost use Rattle.std.specs.Prelude.{◌≡◌, ◌+◌, ◌^◌, ◌≤◌, ◌�
 ghost use Rattle.std.specs.Option.{ForSome};
 ghost use Rattle.std.proofs.Props.{props};
 ghost use Rattle.lease_disk.specs.Calls.{Ran};
-ghost use Rattle.lease_disk.specs.Causes.{HasCause};
+ghost use Rattle.fault_counts.specs.Causes.{HasCause};
 ghost use Rattle.lease_disk.specs.Images.{overwritten, AtEachMoment};
 ghost use Rattle.lease_disk.specs.Kept.{AfterWrite, KeepsByte, NoLongerThan};
 ghost use Rattle.leaf_lease.specs.Kept.{KeepsGone};
@@ -44,10 +44,13 @@ impl LeafLease {
         leaf
     }
 
-    /// Uses the lease up for nothing. Its leaf was gone on the disk before the lease was handed out and stays so, and
-    /// there is nothing else that this could change or tell: so it ensures nothing.
-    pub fn waste(self) {
-        let LeafLease { id: _, leaf: _ } = self;
+    /// Uses the lease up for nothing, and tells the leaf that is lost. It was gone on the disk before the lease was handed
+    /// out, and stays so.
+    pub fn waste(self) -> u32
+        ensures leaf { result ≡ leased_leaf self }
+    {
+        let LeafLease { id: _, leaf } = self;
+        leaf
     }
 }
 
@@ -108,7 +111,7 @@ impl<D: Disk> Leases<D> {
         // No leaf is left exactly where the next is past the last, and then nothing changes.
         ensures dry { IsTrue (is_dry result) ↔ (next_of self ≡ 2 ^ height_of self) }
         ensures untouched { IsTrue (is_dry result) → result ≡ Err (LeaseEnd.Dry self) }
-        ensures cause { HasCause (D.faults (disk_of self)) (D.faults (leased_disk result)) (lease_failed result) }
+        ensures cause { HasCause (lease_failed result ≡ true) (D.faults (disk_of self)) (D.faults (leased_disk result)) }
 
         // In each image of each moment, whatever the answer: a leaf that was gone is gone, and all other bytes stay.
         ensures moments { AtEachMoment D.clock D.during (disk_of self) (leased_disk result)

@@ -18,6 +18,7 @@ mod leases;
 mod opening;
 
 pub use formatting::{FormatEnd, format};
+pub use layout::{LEASE_BYTES, LEASE_CALLS, file_size};
 pub use leases::{LeafLease, LeaseEnd, Leases};
 pub use opening::{OpenEnd, open};
 

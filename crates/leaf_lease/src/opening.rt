@@ -1,9 +1,9 @@
 // Opening a lease file.
-ghost use Rattle.std.specs.Prelude.{◌≡◌, ◌⊎◌, ◌+◌, ◌^◌, ◌<◌, ◌≤◌, [], ◌∷◌, ℕ, List, Some, not, IfOk, OnOk};
+ghost use Rattle.std.specs.Prelude.{◌≡◌, ◌⊎◌, ◌+◌, ◌^◌, ◌<◌, ◌≤◌, [], ◌∷◌, ℕ, List, Some, not, IfOk, OnOk, true};
 ghost use Rattle.std.specs.Option.{ForSome};
 ghost use Rattle.lease_disk.specs.Call.{Len, Read, Sync};
 ghost use Rattle.lease_disk.specs.Calls.{Ran};
-ghost use Rattle.lease_disk.specs.Causes.{HasCause};
+ghost use Rattle.fault_counts.specs.Causes.{HasCause};
 ghost use Rattle.lease_disk.specs.Images.{AtEachMoment};
 ghost use Rattle.leaf_lease.specs.Ends.{OpenSays, opened_disk, open_failed};
 ghost use Rattle.lease_disk.specs.Kept.{KeepsByte, NoLongerThan};
@@ -12,7 +12,7 @@ ghost use Rattle.leaf_lease.specs.Leases.{id_of, height_of, next_of};
 ghost use Rattle.leaf_lease.specs.LeaseFile.{IsGone, file_size};
 
 use crate::judging::{Judgement, judged};
-use crate::layout::{HEAD, LARGEST, leaf_count};
+use crate::layout::{LARGEST, file_size};
 use crate::leases::Leases;
 use lease_disk::{Disk, inspect_firm};
 
@@ -40,7 +40,7 @@ pub fn open<D: Disk>(disk: D, id: [u8; 16], height: u8) -> Result<Leases<D>, Ope
     ensures key { IfOk result (λ leases. (id_of leases ≡ id) × (height_of leases ≡ height)) }
     ensures content { D.now (opened_disk result) ≡ D.now disk }
     ensures firm { OnOk result ((image : List ℕ) → D.may_leave (opened_disk result) image → D.now (opened_disk result) ≡ Some image) }
-    ensures cause { HasCause (D.faults disk) (D.faults (opened_disk result)) (open_failed result) }
+    ensures cause { HasCause (open_failed result ≡ true) (D.faults disk) (D.faults (opened_disk result)) }
 
     // Each image of each moment is one of those at the start, whatever the answer.
     ensures moments { AtEachMoment D.clock D.during disk (opened_disk result) (D.may_leave disk) }
@@ -54,7 +54,7 @@ pub fn open<D: Disk>(disk: D, id: [u8; 16], height: u8) -> Result<Leases<D>, Ope
 {
     let mut disk = disk;
     let mut buffer = [0; LARGEST];
-    let (bytes, _) = buffer.split_at_mut(HEAD + leaf_count(height) as usize);
+    let (bytes, _) = buffer.split_at_mut(file_size(height));
     let seen = match inspect_firm(&mut disk, bytes) {
         Ok(seen) => seen,
         Err(_) => return Err(OpenEnd::Failed { disk }),

@@ -179,12 +179,12 @@ fn place_is_reserved(rt: HostRuntime) -> Result<(), Fail> {
         Err(_) => panic!(rt; "no first leaf is leased"),
     };
     assert_eq!(rt; lease.id().as_slice(), ID.as_slice());
-    lease.waste();
+    assert_eq!(rt; lease.waste(), 0);
     leases.reserve(2, 1)?;
     match leases.lease() {
         Ok((_, lease)) => {
             assert_eq!(rt; lease.leaf(), 1);
-            lease.waste();
+            assert_eq!(rt; lease.waste(), 1);
         }
         Err(_) => panic!(rt; "no second leaf is leased"),
     }

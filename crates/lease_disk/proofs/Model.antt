@@ -1,9 +1,10 @@
 -- What each call of a disk in memory does to its images and to its faults.
 use Rattle.std.proofs.Common.{◌≡◌, ◌⊎◌, inl, inr, ℕ, ◌+◌, ◌-◌, ◌^◌, ◌≤◌, min, Bool, true, false, not, ◌&&◌, List, ◌∷◌, length, if◌then◌else◌, is_ok, is_err, Result, Ok, Err, OnOk, Some, refl, sym, ◌∙◌, ap, subst, arith}
+use Rattle.std.specs.Prelude.{IsErr}
 use Rattle.std.proofs.lemmas.Bool.Decides.{nat_tests}
 use Rattle.lease_disk.specs.declared.disk.Failed.{Failed}
 use Rattle.lease_disk.specs.Call.{Call, Len, Write, Sync}
-use Rattle.lease_disk.specs.Causes.{HasCause}
+use Rattle.fault_counts.specs.Causes.{HasCause}
 use Rattle.lease_disk.specs.Images.{overwritten, Torn, ComesFrom}
 use Rattle.lease_disk.specs.PastLaws.{length-overwritten, overwritten_before, overwritten_after}
 use Rattle.lease_disk.specs.Past.{Act, Wrote, Synced, content_of, is_pending, IsImage}
@@ -26,18 +27,18 @@ refused_fails true is = refl
 refused_fails false is = is
 
 -- a call fails only where it counts a fault
-pub cause_of : {T : Type 0} (old new : DiskState) (call : Call) (result : Result T Failed) → Leads old call (is_ok result) new → HasCause old.faults new.faults (is_err result)
+pub cause_of : {T : Type 0} (old new : DiskState) (call : Call) (result : Result T Failed) → Leads old call (is_ok result) new → HasCause (IsErr result) old.faults new.faults
 cause_of old new call (Ok value) leads =
     let served = served_fails (fails old call) leads.answer in
     let same : new.faults ≡ old.faults = ap (λ (d : DiskState). d.faults) leads.disk ∙ ap (λ b. if b then risen old.faults else old.faults) served in
-    record { later = omega (arith, same); rose = λ err. absurd (cc err); stayed = λ ok. same }
+    record { never_falls = omega (arith, same); rose = λ err. absurd (cc err); stays = λ none. same }
 cause_of old new call (Err error) leads =
     let refused = refused_fails (fails old call) leads.answer in
     let rose : new.faults ≡ risen old.faults = ap (λ (d : DiskState). d.faults) leads.disk ∙ ap (λ b. if b then risen old.faults else old.faults) refused in
     record {
-      later = omega (arith, rose, rises_from old.faults);
+      never_falls = omega (arith, rose, rises_from old.faults);
       rose = λ err. omega (arith, rose, rises old.faults);
-      stayed = λ ok. absurd (cc ok);
+      stays = λ none. absurd (none refl);
     }
 
 -- a write makes its entry or none
@@ -114,7 +115,7 @@ module _ (old new : DiskState) (served : Bool) (leads : Leads old Sync served ne
       and_false false b is = refl
 
 -- a call that could not look failed
-pub looked : {T : Type 0} (old new : DiskState) (result : Result (Unit {0}) Failed) (error : Failed) (answer : Result T Failed) → Leads old Len (is_ok result) new → result ≡ Err error → is_err answer ≡ true → HasCause old.faults new.faults (is_err answer)
+pub looked : {T : Type 0} (old new : DiskState) (result : Result (Unit {0}) Failed) (error : Failed) (answer : Result T Failed) → Leads old Len (is_ok result) new → result ≡ Err error → is_err answer ≡ true → HasCause (IsErr answer) old.faults new.faults
 looked old new result error answer leads was is =
     let refused : is_ok result ≡ is_ok answer = ap is_ok was ∙ sym (not_ok answer is) in
     cause_of old new Len answer (record { answer = sym refused ∙ leads.answer; disk = leads.disk })

@@ -1,6 +1,5 @@
 pub mod Call
 pub mod Calls
-pub mod Causes
 pub mod Images
 pub mod Kept
 pub mod Marks

@@ -1,8 +1,8 @@
 // What every disk promises, in memory or on a file.
-ghost use Rattle.std.specs.Prelude.{◌≡◌, ◌+◌, ◌-◌, ◌^◌, ◌<◌, ◌≤◌, ◌++◌, ℕ, List, Option, Some, Bool, length, take, drop, min, option_map, is_ok, is_err, IsSome, IfOk, OnOk, OnErr};
+ghost use Rattle.std.specs.Prelude.{◌≡◌, ◌+◌, ◌-◌, ◌^◌, ◌<◌, ◌≤◌, ◌++◌, ℕ, List, Option, Some, Bool, length, take, drop, min, option_map, is_ok, IsErr, IsSome, IfOk, OnOk, OnErr};
 ghost use Rattle.std.specs.Option.{ForSome};
 ghost use Rattle.lease_disk.specs.Call.{Call, Len, Read, Write, Sync};
-ghost use Rattle.lease_disk.specs.Causes.{HasCause};
+ghost use Rattle.fault_counts.specs.Causes.{HasCause};
 ghost use Rattle.lease_disk.specs.Images.{overwritten, Torn, ComesFrom, Told, OnlyLooks, Elapses};
 
 /// The disk did not do what it was asked.
@@ -37,7 +37,7 @@ pub trait Disk {
     fn len(&mut self) -> Result<u64, Failed>
         ensures length { IfOk result (λ n. ForSome (now self.old) (λ bytes. n ≡ length bytes)) }
         ensures looks { OnlyLooks now may_leave clock during self.old self.new }
-        ensures cause { HasCause (faults self.old) (faults self.new) (is_err result) }
+        ensures cause { HasCause (IsErr result) (faults self.old) (faults self.new) }
         ensures led { led self.old Len (is_ok result) self.new };
 
     /// Reads from the byte `at` on, up to the end of the file or of `into`, and answers how many bytes it read.
@@ -48,7 +48,7 @@ pub trait Disk {
         ensures bytes { IfOk result (λ n. ForSome (now self.old) (λ bytes.
             into.new ≡ take n (drop at bytes) ++ drop n into.old)) }
         ensures looks { OnlyLooks now may_leave clock during self.old self.new }
-        ensures cause { HasCause (faults self.old) (faults self.new) (is_err result) }
+        ensures cause { HasCause (IsErr result) (faults self.old) (faults self.new) }
         ensures led { led self.old (Read at (length into.old)) (is_ok result) self.new };
 
     /// Writes over what is there, and past the end. A gap past the end is filled with 0 and counts as written.
@@ -59,7 +59,7 @@ pub trait Disk {
         ensures torn { Told (Torn at (length bytes.now)) (now self.old) (now self.new) }
         ensures crash { ComesFrom (Torn at (length bytes.now)) (may_leave self.old) (may_leave self.new) }
         ensures time { Elapses may_leave clock during self.old self.new }
-        ensures cause { HasCause (faults self.old) (faults self.new) (is_err result) }
+        ensures cause { HasCause (IsErr result) (faults self.old) (faults self.new) }
         ensures led { led self.old (Write at bytes.now) (is_ok result) self.new };
 
     /// Makes firm what was written: after Ok a crash leaves what a read gives. After `Failed` nothing is firm
@@ -70,7 +70,7 @@ pub trait Disk {
         ensures crash { (image : List ℕ) → may_leave self.new image → may_leave self.old image }
         ensures not_firm { OnErr result ((image : List ℕ) → may_leave self.old image → may_leave self.new image) }
         ensures time { Elapses may_leave clock during self.old self.new }
-        ensures cause { HasCause (faults self.old) (faults self.new) (is_err result) }
+        ensures cause { HasCause (IsErr result) (faults self.old) (faults self.new) }
         ensures led { led self.old Sync (is_ok result) self.new };
 
     /// This moment is one of those since an earlier one.

@@ -1,9 +1,10 @@
 // A disk on a file of the system: the trusted edge. It tells no content and no image.
-ghost use Rattle.std.specs.Prelude.{◌≡◌, ◌≤◌, ◌+◌, ◌^◌, ◌<◌, None, length, is_err, IfOk, IsOk, ⊤};
-ghost use Rattle.lease_disk.specs.Causes.{HasCause};
+ghost use Rattle.std.specs.Prelude.{◌≡◌, ◌≤◌, ◌+◌, ◌^◌, ◌<◌, None, length, IsErr, IfOk, IsOk, ⊤};
+ghost use Rattle.fault_counts.specs.Causes.{HasCause};
 ghost use Rattle.lease_disk.specs.PastLaws.{none_told};
 
 use crate::{Disk, Failed};
+use fault_counts::one_more;
 use std::fs::{File, Files, OpenOptions};
 use std::io::{self, ErrorKind, Read, Seek, SeekFrom, Write};
 
@@ -60,12 +61,12 @@ impl<'a, R: Files<File = File>> FileDisk<'a, R> {
     fn counted<T: Drop>(&mut self, outcome: io::Result<T>) -> Result<T, Failed>
         ensures value { IfOk result (λ value. outcome ≡ Ok value) }
         ensures served { IsOk outcome → IsOk result }
-        ensures cause { HasCause self.old.faults self.new.faults (is_err result) }
+        ensures cause { HasCause (IsErr result) self.old.faults self.new.faults }
     {
         match outcome {
             Ok(value) => Ok(value),
             Err(_) => {
-                self.faults = self.faults.saturating_add(1);
+                self.faults = one_more(self.faults);
                 Err(Failed)
             }
         }

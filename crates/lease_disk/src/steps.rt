@@ -1,9 +1,9 @@
 // Steps of a few device calls each, over every disk.
-ghost use Rattle.std.specs.Prelude.{◌≡◌, ◌+◌, ◌^◌, ◌<◌, ◌≤◌, ◌++◌, [], ◌∷◌, ℕ, List, Some, length, min, take, drop, option_map, is_ok, is_err, IfOk, OnOk};
+ghost use Rattle.std.specs.Prelude.{◌≡◌, ◌+◌, ◌^◌, ◌<◌, ◌≤◌, ◌++◌, [], ◌∷◌, ℕ, List, Some, length, min, take, drop, option_map, is_ok, IsErr, IfOk, OnOk};
 ghost use Rattle.std.specs.Option.{ForSome};
 ghost use Rattle.lease_disk.specs.Call.{Len, Read, Sync};
 ghost use Rattle.lease_disk.specs.Calls.{Ran, firm_calls, gated_calls};
-ghost use Rattle.lease_disk.specs.Causes.{HasCause};
+ghost use Rattle.fault_counts.specs.Causes.{HasCause};
 ghost use Rattle.lease_disk.specs.Images.{overwritten, OnlyLooks, AtEachMoment};
 ghost use Rattle.lease_disk.specs.Kept.{AfterWrite, WhileGated, gated};
 
@@ -25,7 +25,7 @@ pub fn write_firm<D: Disk>(disk: &mut D, at: u64, bytes: &[u8]) -> Result<(), Fa
     ensures firm { OnOk result ((image : List ℕ) → D.may_leave disk.new image → D.now disk.new ≡ Some image) }
     ensures moments { AtEachMoment D.clock D.during disk.old disk.new (AfterWrite (D.may_leave disk.old) at (length bytes.now)) }
     ensures clock { D.clock disk.new ≤ D.clock disk.old + 2 }
-    ensures cause { HasCause (D.faults disk.old) (D.faults disk.new) (is_err result) }
+    ensures cause { HasCause (IsErr result) (D.faults disk.old) (D.faults disk.new) }
     ensures calls { Ran D.led disk.old (firm_calls at bytes.now) (is_ok result) disk.new }
 {
     disk.write_at(at, bytes)?;
@@ -40,7 +40,7 @@ pub fn write_gated<D: Disk>(disk: &mut D, at: u64, gate: u8, body: &[u8]) -> Res
     ensures firm { OnOk result ((image : List ℕ) → D.may_leave disk.new image → D.now disk.new ≡ Some image) }
     ensures moments { AtEachMoment D.clock D.during disk.old disk.new (WhileGated (D.may_leave disk.old) (D.now disk.old) at body.now) }
     ensures clock { D.clock disk.new ≤ D.clock disk.old + 4 }
-    ensures cause { HasCause (D.faults disk.old) (D.faults disk.new) (is_err result) }
+    ensures cause { HasCause (IsErr result) (D.faults disk.old) (D.faults disk.new) }
     ensures calls { Ran D.led disk.old (gated_calls at gate body.now) (is_ok result) disk.new }
 {
     write_firm(disk, at + 1, body)?;
@@ -54,7 +54,7 @@ pub fn inspect<D: Disk>(disk: &mut D, into: &mut [u8]) -> Result<Seen, Failed>
     ensures count { IfOk result (λ seen. ForSome (D.now disk.old) (λ file. seen.count ≡ min (length into.old) (length file))) }
     ensures bytes { IfOk result (λ seen. ForSome (D.now disk.old) (λ file. into.new ≡ take seen.count file ++ drop seen.count into.old)) }
     ensures looks { OnlyLooks D.now D.may_leave D.clock D.during disk.old disk.new }
-    ensures cause { HasCause (D.faults disk.old) (D.faults disk.new) (is_err result) }
+    ensures cause { HasCause (IsErr result) (D.faults disk.old) (D.faults disk.new) }
     ensures calls { Ran D.led disk.old (Len ∷ Read 0 (length into.old) ∷ []) (is_ok result) disk.new }
 {
     let length = disk.len()?;
@@ -72,7 +72,7 @@ pub fn inspect_firm<D: Disk>(disk: &mut D, into: &mut [u8]) -> Result<Seen, Fail
     ensures firm { OnOk result ((image : List ℕ) → D.may_leave disk.new image → D.now disk.new ≡ Some image) }
     ensures moments { AtEachMoment D.clock D.during disk.old disk.new (D.may_leave disk.old) }
     ensures clock { D.clock disk.new ≤ D.clock disk.old + 1 }
-    ensures cause { HasCause (D.faults disk.old) (D.faults disk.new) (is_err result) }
+    ensures cause { HasCause (IsErr result) (D.faults disk.old) (D.faults disk.new) }
     ensures calls { Ran D.led disk.old (Sync ∷ Len ∷ Read 0 (length into.old) ∷ []) (is_ok result) disk.new }
 {
     disk.sync()?;

@@ -3,11 +3,11 @@ ghost use Rattle.std.specs.Prelude.{◌≡◌, ◌++◌, ◌∷◌, [], IfOk};
 ghost use Rattle.hex.specs.Hex.{encode_lower};
 ghost use Rattle.aip_registry.specs.Record.{record_of};
 
-use aip_addr::{Bytes, Memory};
+use aip_addr::Bytes;
 use aip_registry::{Record, record_bytes};
 use aip_text::{push_hex, push_text};
 use lms_core::PublicKey;
-use std::alloc::Global;
+use std::alloc::{AllocError, Global};
 
 /// The record with this key and this signature, as a line of hex with its line feed. The only error is want of memory.
 pub fn line_of(
@@ -15,7 +15,7 @@ pub fn line_of(
     fields: &Record,
     key: &PublicKey,
     signature: &[u8],
-) -> Result<Bytes, Memory>
+) -> Result<Bytes, AllocError>
     ensures { IfOk result (λ line. line ≡ encode_lower (record_of fields.now key.now signature.now) ++ (10 ∷ [])) }
 {
     let bytes = record_bytes(alloc, fields, key, signature)?;

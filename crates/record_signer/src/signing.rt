@@ -1,7 +1,7 @@
 // Signing a record with the next leaf of a lease file.
-ghost use Rattle.std.specs.Prelude.{◌≡◌, ◌≢◌, ◌≤◌, ◌+◌, ℕ, List, Some, IfOk, IfErr, OnOk};
+ghost use Rattle.std.specs.Prelude.{◌≡◌, ◌≢◌, ◌≤◌, ◌+◌, ℕ, List, Some, IfOk, IfErr, OnOk, true};
 ghost use Rattle.std.specs.Option.{ForSome};
-ghost use Rattle.lease_disk.specs.Causes.{HasCause};
+ghost use Rattle.fault_counts.specs.Causes.{HasCause};
 ghost use Rattle.lease_disk.specs.Images.{AtEachMoment};
 ghost use Rattle.lease_disk.specs.Kept.{AfterWrite};
 ghost use Rattle.leaf_lease.specs.LeaseFile.{IsGone, head_size};
@@ -41,7 +41,7 @@ fn sign<D: Disk>(
     ensures moments { AtEachMoment D.clock D.during (disk_of signer) result.1
         (AfterWrite (D.may_leave (disk_of signer)) (head_size + next_of signer) 1) }
     ensures clock { D.clock result.1 ≤ D.clock (disk_of signer) + 2 }
-    ensures cause { HasCause (D.faults (disk_of signer)) (D.faults result.1) (is_disk_fault result.0) }
+    ensures cause { HasCause (is_disk_fault result.0 ≡ true) (D.faults (disk_of signer)) (D.faults result.1) }
 {
     match signer.sign(alloc, &record_text(fields)) {
         Ok((signer, _, signature)) => {
@@ -78,7 +78,7 @@ pub fn sign_record<D: Disk>(
     // Told or not: the line is signed with a leaf that is gone by then; no leaf that was gone is free again at any moment,
     // and every byte but that leaf's is as it was.
     ensures signs { Signs D.now D.may_leave D.clock D.during tree fields.now disk result.1 result.0 }
-    ensures cause { HasCause (D.faults disk) (D.faults result.1) (is_disk_fault result.0) }
+    ensures cause { HasCause (is_disk_fault result.0 ≡ true) (D.faults disk) (D.faults result.1) }
 {
     match Signer::open(disk, tree) {
         Ok(signer) => sign(alloc, signer, fields),

@@ -34,5 +34,5 @@ abbrev pub is_logged_at_all : List Noted → List ℕ → Bool
 is_logged_at_all frames hash = list_any (has_hash hash) frames
 
 -- the log stands for all the frames that were put, the newest first: it keeps the last of them, as many as it has room for
-pub record StandsFor (put : List Noted) (log : Log) : Type 0 where
+pub record LogStandsFor (put : List Noted) (log : Log) : Type 0 where
   pub frames : log.frames ≡ take log.room put

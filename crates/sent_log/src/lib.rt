@@ -13,7 +13,6 @@
 
 mod log;
 
-pub use aip_addr::Memory;
 pub use log::{Noted, SentLog};
 
 #[cfg(test)]

@@ -1,10 +1,10 @@
 ghost use Rattle.std.specs.Prelude.{◌≡◌, ◌<◌, ◌≤◌, ◌∷◌, [], List, IfOk, length};
-ghost use Rattle.sent_log.specs.Log.{StandsFor, empty_log, is_logged, is_logged_at_all, with_frame};
+ghost use Rattle.sent_log.specs.Log.{LogStandsFor, empty_log, is_logged, is_logged_at_all, with_frame};
 ghost use Rattle.sent_log.specs.declared.log.Noted.{Noted as NotedFrame};
 
-use aip_addr::{KeyId, Memory};
+use aip_addr::KeyId;
 use circular_buffer::HeapCircularBuffer;
-use std::alloc::Global;
+use std::alloc::{AllocError, Global};
 use std::marker::Model;
 
 /// A frame that was put, as a log keeps it.
@@ -32,10 +32,10 @@ impl Model for SentLog {
 
 impl SentLog {
     /// A log with room for so many frames, which keeps none yet. The only error is want of memory.
-    pub fn new(alloc: Global, room: u16) -> Result<SentLog, Memory>
+    pub fn new(alloc: Global, room: u16) -> Result<SentLog, AllocError>
         requires { 1 ≤ room }
         ensures empty { IfOk result (λ log. log ≡ empty_log room) }
-        ensures stands { IfOk result (λ log. StandsFor [] log) }
+        ensures stands { IfOk result (λ log. LogStandsFor [] log) }
     {
         let ring = HeapCircularBuffer::with_capacity(alloc, room.into())?;
         Ok(SentLog { ring })
@@ -46,8 +46,8 @@ impl SentLog {
     #[tactic(auto, using(crate::proofs::Standing::still_stands))]
     pub fn note(&mut self, hash: &[u8; 32], to: &KeyId)
         ensures noted { self.new ≡ with_frame self.old (record { hash = hash.now; to = to.now }) }
-        ensures stands { (put : List NotedFrame) → StandsFor put self.old
-            → StandsFor (record { hash = hash.now; to = to.now } ∷ put) self.new }
+        ensures stands { (put : List NotedFrame) → LogStandsFor put self.old
+            → LogStandsFor (record { hash = hash.now; to = to.now } ∷ put) self.new }
     {
         let _pushed_out = self.ring.push_front(Noted {
             hash: *hash,
@@ -74,7 +74,7 @@ impl SentLog {
     /// Forgets all frames. The room stays, and no memory is taken.
     pub fn clear(&mut self)
         ensures empty { self.new ≡ empty_log self.old.room }
-        ensures stands { StandsFor [] self.new }
+        ensures stands { LogStandsFor [] self.new }
     {
         self.ring.clear();
     }

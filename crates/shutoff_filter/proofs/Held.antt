@@ -14,7 +14,7 @@ use Rattle.shutoff_filter.specs.ImageLaws.{body_kept, closing_torn, entries_same
 use Rattle.shutoff_filter.specs.Keeping.{IsImageOf, SameOrAdded, entries_in, entry_bytes, kept_disk, kept_slots}
 use Rattle.shutoff_filter.specs.Slots.{closed_slot}
 use Rattle.shutoff_filter.specs.Spare.{holds_entry}
-use Rattle.shutoff_filter.specs.declared.entries.Entry.{Entry}
+use Rattle.shutoff_filter.specs.declared.entries.ShutOffEntry.{ShutOffEntry}
 use Rattle.shutoff_filter.specs.Store.{slots_of}
 use Rattle.shutoff_filter.specs.declared.keeping.KeepEnd.{KeepEnd}
 use Rattle.shutoff_filter.specs.declared.slots.Slot.{Slot}
@@ -66,7 +66,7 @@ module _ {D : Type 0} (content : D → Option (List ℕ)) (may_leave : D → Lis
 
   -- while an entry is written
   module _ (number : ℕ) (to : KeyId) (until : ℕ) (within : number ≤ room) (nineteen : length to.bytes ≡ 19) (fits : until < 2 ^ 64) (shut : (slot_in slots number).is_open ≡ false) where
-    abbrev entry : Entry
+    abbrev entry : ShutOffEntry
     entry = record { to = to; until = until }
 
     pub keep_moments : (new : D) (body : List ℕ) → body ≡ entry_bytes to until → AtEachMoment clock during old new (WhileGated (may_leave old) (content old) (slot_start number) body)
@@ -85,7 +85,7 @@ module _ {D : Type 0} (content : D → Option (List ℕ)) (may_leave : D → Lis
 
 module _ {D : Type 0} {G : Ghosts D} where
   -- what a store has in memory stands in each image that a crash may leave
-  pub kept_images : (result : Result (FilterStore D G) (KeepEnd D)) (room now : ℕ) (entries : List Entry)
+  pub kept_images : (result : Result (FilterStore D G) (KeepEnd D)) (room now : ℕ) (entries : List ShutOffEntry)
       → IfOk result (λ store. SameInForce now entries (entries_of (slots_of store))) → (kept_slots result).room ≡ room
       → OnOk result ((image : List ℕ) → G.may_leave (kept_disk result) image → SameInForce now entries (entries_in room image))
   kept_images (Ok store) room now entries same is = λ image left.

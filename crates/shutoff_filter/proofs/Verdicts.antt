@@ -8,7 +8,7 @@ use Rattle.aip_frame.specs.declared.frame.Frame.{Frame}
 use Rattle.sent_log.specs.declared.log.Noted.{Noted}
 use Rattle.shutoff_filter.specs.Body.{order_in}
 use Rattle.shutoff_filter.specs.Judged.{body_verdict, is_full, is_in_log, shutoff_verdict}
-use Rattle.shutoff_filter.specs.declared.entries.Entry.{Entry}
+use Rattle.shutoff_filter.specs.declared.entries.ShutOffEntry.{ShutOffEntry}
 use Rattle.shutoff_filter.specs.declared.judging.Heard.{Heard}
 use Rattle.shutoff_filter.specs.declared.judging.Heard.TheVariants as heard
 
@@ -19,7 +19,7 @@ module _ (now : ℕ) where
       let test : nat_lt (length f.body) 100 ≡ false = grind (arith, nat_tests) in
       cond-false _ _ _ test
 
-  module _ (room : ℕ) (entries : List Entry) (log : List Noted) where
+  module _ (room : ℕ) (entries : List ShutOffEntry) (log : List Noted) where
     -- the verdict on these parts, over a filter and a log
     abbrev pub part_verdict : Address → Address → List ℕ → Heard
     part_verdict from to body = body_verdict now from to body (is_in_log log from (order_in body)) (is_full room now from entries)

@@ -17,7 +17,7 @@ use Rattle.shutoff_filter.specs.Places.{ChangesSlot, body_same, body_torn, body_
 use Rattle.shutoff_filter.specs.SlotLaws.{closed_in_force, opened_in_force, shut_in_force}
 use Rattle.shutoff_filter.specs.Slots.{closed_slot}
 use Rattle.shutoff_filter.specs.Spare.{holds_entry}
-use Rattle.shutoff_filter.specs.declared.entries.Entry.{Entry}
+use Rattle.shutoff_filter.specs.declared.entries.ShutOffEntry.{ShutOffEntry}
 use Rattle.shutoff_filter.specs.declared.slots.Slot.{Slot}
 
 -- the number of slots of a file
@@ -121,7 +121,7 @@ module _ (room now number : ℕ) (to : KeyId) (until : ℕ) (slots : List Slot) 
   body = entry_bytes to until
 
   -- the entry
-  abbrev entry : Entry
+  abbrev entry : ShutOffEntry
   entry = record { to = to; until = until }
 
   -- the file before the gate is written
@@ -201,7 +201,7 @@ module _ (room now number : ℕ) (to : KeyId) (until : ℕ) (slots : List Slot) 
 
       by : (b : Bool) → (fill == open_gate) ≡ b → SameInForce now (if b then entry ∷ entries_of slots else entries_of slots) (entries_of (set slots number (slot_of fill body)))
       by false shut' = shut_in_force now slots number closed_slot (slot_of fill body) there shut shut'
-      by true opened = subst (λ (e : Entry). SameInForce now (e ∷ entries_of slots) (entries_of (set slots number (slot_of fill body)))) entry_is (opened_in_force now slots number closed_slot (slot_of fill body) there shut opened)
+      by true opened = subst (λ (e : ShutOffEntry). SameInForce now (e ∷ entries_of slots) (entries_of (set slots number (slot_of fill body)))) entry_is (opened_in_force now slots number closed_slot (slot_of fill body) there shut opened)
 
   -- where it leaves its byte over what stands past the gate, all entries stay
   pub body_filled : (fill : ℕ) → IsFilter room (overwritten before (slot_start number + 1) (replicate 27 fill)) × SameInForce now (entries_of slots) (entries_in room (overwritten before (slot_start number + 1) (replicate 27 fill)))

@@ -8,12 +8,12 @@ use Rattle.std.proofs.lemmas.Slice.Eq.{bytes_eq-Decides}
 use Rattle.std.specs.Cmp.{IsEquivalence, IsTotalOrder}
 use Rattle.std.specs.Ordering.{is_eq, is_lt, ordering_reverse}
 use Rattle.aip_addr.specs.declared.ids.KeyId.{KeyId}
-use Rattle.shutoff_filter.specs.declared.entries.Entry.{Entry}
+use Rattle.shutoff_filter.specs.declared.entries.ShutOffEntry.{ShutOffEntry}
 use Rattle.shutoff_filter.specs.Listed.{AllAfter, IsInOrder, IsListOf}
 use Rattle.shutoff_filter.specs.Entries.{SameInForce, greatest, in_force, is_before, is_covered, is_key, is_withheld, key_cmp, lasts, others_in_force, with_greatest, withholds}
 
 -- the entry at a place of a list
-abbrev pub entry_in : List Entry → ℕ → Entry
+abbrev pub entry_in : List ShutOffEntry → ℕ → ShutOffEntry
 entry_in entries place = get_or entries place (record { to = record { bytes = [] }; until = 0 })
 
 -- keys are told apart by their bytes
@@ -54,11 +54,11 @@ comes_after a b before apart = ap is_lt (key_order.antisymm b a) ∙ by (key_cmp
 before_all : (a b c : KeyId) → is_before a b ≡ true → is_before b c ≡ true → is_before a c ≡ true
 before_all a b c first second = ap is_lt (key_order.trans a b c (is_less (key_cmp a b) first) (is_less (key_cmp b c) second))
 
-after_less : (a b : KeyId) (es : List Entry) → is_before a b ≡ true → AllAfter b es → AllAfter a es
+after_less : (a b : KeyId) (es : List ShutOffEntry) → is_before a b ≡ true → AllAfter b es → AllAfter a es
 after_less a b [] before after = tt
 after_less a b (e ∷ es) before after = (before_all a b e.to before after.0, after_less a b es before after.1)
 
-not_there : (time : ℕ) (key : KeyId) (es : List Entry) → AllAfter key es → is_withheld time key es ≡ false
+not_there : (time : ℕ) (key : KeyId) (es : List ShutOffEntry) → AllAfter key es → is_withheld time key es ≡ false
 not_there time key [] after = refl
 not_there time key (e ∷ es) after =
     let apart : is_key e.to key ≡ false = key_laws.symm e.to key ∙ before_apart key e.to after.0 in
@@ -68,8 +68,8 @@ not_there time key (e ∷ es) after =
 abbrev added : Bool → Bool → ℕ → ℕ
 added passes there count = if passes && not there then suc count else count
 
-module _ (entry : Entry) where
-  all_after-with : (key : KeyId) (es : List Entry) → is_before key entry.to ≡ true → AllAfter key es → AllAfter key (with_greatest entry es)
+module _ (entry : ShutOffEntry) where
+  all_after-with : (key : KeyId) (es : List ShutOffEntry) → is_before key entry.to ≡ true → AllAfter key es → AllAfter key (with_greatest entry es)
   all_after-with key [] before after = (before, tt)
   all_after-with key (e ∷ es) before after = by (is_before entry.to e.to) (is_key entry.to e.to) (all_after-with key es before after.1)
     where
@@ -78,7 +78,7 @@ module _ (entry : Entry) where
       by false true rest = (after.0, after.1)
       by false false rest = (after.0, rest)
 
-  in_order-with : (now : ℕ) (es : List Entry) → lasts now entry ≡ true → IsInOrder now es → IsInOrder now (with_greatest entry es)
+  in_order-with : (now : ℕ) (es : List ShutOffEntry) → lasts now entry ≡ true → IsInOrder now es → IsInOrder now (with_greatest entry es)
   in_order-with now [] lasting order = (lasting, tt, tt)
   in_order-with now (e ∷ es) lasting order = by (is_before entry.to e.to) (is_key entry.to e.to) refl refl (in_order-with now es lasting order.2)
     where
@@ -91,7 +91,7 @@ module _ (entry : Entry) where
       by false false before same rest = (order.0, all_after-with e.to es (comes_after entry.to e.to before same) order.1, rest)
 
   -- what is withheld is what it was, and the key of the entry
-  withheld-with : (time : ℕ) (key : KeyId) (es : List Entry) → is_withheld time key (with_greatest entry es) ≡ is_withheld time key (entry ∷ es)
+  withheld-with : (time : ℕ) (key : KeyId) (es : List ShutOffEntry) → is_withheld time key (with_greatest entry es) ≡ is_withheld time key (entry ∷ es)
   withheld-with time key [] = refl
   withheld-with time key (e ∷ es) = by (is_before entry.to e.to) (is_key entry.to e.to) refl (withheld-with time key es)
     where
@@ -117,7 +117,7 @@ module _ (entry : Entry) where
       by false false same rest = ap (λ b. withholds time key e || b) rest ∙ swapped (withholds time key e) (withholds time key entry) (is_withheld time key es)
 
   -- how many entries of some keys there are: one more, unless the key is in force by the others
-  counted : (p : KeyId → Bool) → ((a b : KeyId) → is_key a b ≡ true → p a ≡ p b) → (now : ℕ) (es : List Entry) → IsInOrder now es
+  counted : (p : KeyId → Bool) → ((a b : KeyId) → is_key a b ≡ true → p a ≡ p b) → (now : ℕ) (es : List ShutOffEntry) → IsInOrder now es
       → length (filter (λ e. p e.to) (with_greatest entry es)) ≡ (if p entry.to && not (is_withheld now entry.to es) then suc (length (filter (λ e. p e.to) es)) else length (filter (λ e. p e.to) es))
   counted p alike now [] order = by (p entry.to)
     where
@@ -126,7 +126,7 @@ module _ (entry : Entry) where
       by false = refl
   counted p alike now (e ∷ es) order = by (is_before entry.to e.to) (is_key entry.to e.to) refl refl (counted p alike now es order.2)
     where
-      first : (b : Bool) (l : List Entry) → length (if b then entry ∷ l else l) ≡ added b false (length l)
+      first : (b : Bool) (l : List ShutOffEntry) → length (if b then entry ∷ l else l) ≡ added b false (length l)
       first true l = refl
       first false l = refl
 
@@ -134,7 +134,7 @@ module _ (entry : Entry) where
       and_not true n = refl
       and_not false n = refl
 
-      behind : (b : Bool) (l m : List Entry) (passes there : Bool) → length l ≡ added passes there (length m) → length (if b then e ∷ l else l) ≡ added passes there (length (if b then e ∷ m else m))
+      behind : (b : Bool) (l m : List ShutOffEntry) (passes there : Bool) → length l ≡ added passes there (length m) → length (if b then e ∷ l else l) ≡ added passes there (length (if b then e ∷ m else m))
       behind false l m passes there is = is
       behind true l m true true is = ap suc is
       behind true l m true false is = ap suc is
@@ -164,7 +164,7 @@ module _ (entry : Entry) where
           ∙ ap (λ b. added (p entry.to) b (length (filter (λ e. p e.to) (e ∷ es)))) (sym there)
 
 -- an entry that is past withholds nothing from then on
-pub past_withholds : (now time : ℕ) (key : KeyId) (entry : Entry) → now ≤ time → lasts now entry ≡ false → withholds time key entry ≡ false
+pub past_withholds : (now time : ℕ) (key : KeyId) (entry : ShutOffEntry) → now ≤ time → lasts now entry ≡ false → withholds time key entry ≡ false
 past_withholds now time key entry later past =
     let over : nat_lt time entry.until ≡ false = grind (arith, nat_tests) in
     ap (λ b. is_key entry.to key && b) over ∙ by (is_key entry.to key)
@@ -174,7 +174,7 @@ past_withholds now time key entry later past =
     by false = refl
 
 -- the keys in force withhold what the entries do
-pub withheld_in_force : (now time : ℕ) (to : KeyId) (entries : List Entry) → now ≤ time → is_withheld time to (in_force now entries) ≡ is_withheld time to entries
+pub withheld_in_force : (now time : ℕ) (to : KeyId) (entries : List ShutOffEntry) → now ≤ time → is_withheld time to (in_force now entries) ≡ is_withheld time to entries
 withheld_in_force now time to [] later = refl
 withheld_in_force now time to (e ∷ es) later = by (lasts now e) refl (withheld_in_force now time to es later)
   where
@@ -182,7 +182,7 @@ withheld_in_force now time to (e ∷ es) later = by (lasts now e) refl (withheld
     by true is rest = withheld-with e time to (in_force now es) ∙ ap (λ b. withholds time to e || b) rest
     by false is rest = rest ∙ ap (λ b. b || is_withheld time to es) (sym (past_withholds now time to e later is))
 
-in_order : (now : ℕ) (entries : List Entry) → IsInOrder now (in_force now entries)
+in_order : (now : ℕ) (entries : List ShutOffEntry) → IsInOrder now (in_force now entries)
 in_order now [] = tt
 in_order now (e ∷ es) = by (lasts now e) refl (in_order now es)
   where
@@ -191,11 +191,11 @@ in_order now (e ∷ es) = by (lasts now e) refl (in_order now es)
     by false is rest = rest
 
 -- the keys in force are listed
-pub listed : (now : ℕ) (entries : List Entry) → IsListOf now entries (in_force now entries)
+pub listed : (now : ℕ) (entries : List ShutOffEntry) → IsListOf now entries (in_force now entries)
 listed now entries = record { order = in_order now entries; same = λ to time later. sym (withheld_in_force now time to entries later) }
 
 -- the head of a list in order is in force
-head_there : (now : ℕ) (e : Entry) (es : List Entry) → lasts now e ≡ true → is_withheld now e.to (e ∷ es) ≡ true
+head_there : (now : ℕ) (e : ShutOffEntry) (es : List ShutOffEntry) → lasts now e ≡ true → is_withheld now e.to (e ∷ es) ≡ true
 head_there now e es lasting =
     ap (λ b. (b && lasts now e) || is_withheld now e.to es) (key_laws.refl e.to) ∙ ap (λ b. b || is_withheld now e.to es) lasting
 
@@ -203,7 +203,7 @@ true_false : {A : Type 0} → true ≡ false → A
 true_false e = absurd (cc)
 
 -- the head's until is the greatest of its key
-head_until : (now : ℕ) (e f : Entry) (es fs : List Entry) → is_key e.to f.to ≡ true → lasts now e ≡ true → AllAfter e.to es → SameInForce now (e ∷ es) (f ∷ fs) → f.until ≤ e.until
+head_until : (now : ℕ) (e f : ShutOffEntry) (es fs : List ShutOffEntry) → is_key e.to f.to ≡ true → lasts now e ≡ true → AllAfter e.to es → SameInForce now (e ∷ es) (f ∷ fs) → f.until ≤ e.until
 head_until now e f es fs same lasting after alike = elim (cases_lt e.until f.until) [
   | inl above ↦
       let later : now ≤ e.until = grind (arith, nat_tests) in
@@ -219,11 +219,11 @@ head_until now e f es fs same lasting after alike = elim (cases_lt e.until f.unt
 pub one_key : (a b : KeyId) → is_key a b ≡ true → a ≡ b
 one_key a b same = ap (λ (bytes : List ℕ). let key : KeyId = record { bytes = bytes } in key) ((bytes_eq-Decides a.bytes b.bytes).0 same)
 
-same_after : (a b : KeyId) (es : List Entry) → is_key a b ≡ true → AllAfter b es → AllAfter a es
+same_after : (a b : KeyId) (es : List ShutOffEntry) → is_key a b ≡ true → AllAfter b es → AllAfter a es
 same_after a b es is after = subst (λ (k : KeyId). AllAfter k es) (sym (one_key a b is)) after
 
 -- past heads of one key, what withholds the same goes on to
-same_tails : (now : ℕ) (e f : Entry) (es fs : List Entry) → is_key e.to f.to ≡ true → AllAfter e.to es → AllAfter f.to fs → SameInForce now (e ∷ es) (f ∷ fs) → SameInForce now es fs
+same_tails : (now : ℕ) (e f : ShutOffEntry) (es fs : List ShutOffEntry) → is_key e.to f.to ≡ true → AllAfter e.to es → AllAfter f.to fs → SameInForce now (e ∷ es) (f ∷ fs) → SameInForce now es fs
 same_tails now e f es fs same left right alike = λ key time later. by key time later (is_key e.to key) refl
   where
     by : (key : KeyId) (time : ℕ) → now ≤ time → (b : Bool) → is_key e.to key ≡ b → is_withheld time key es ≡ is_withheld time key fs
@@ -236,7 +236,7 @@ same_tails now e f es fs same left right alike = λ key time later. by key time 
         sym (ap (λ b. (b && lasts time e) || is_withheld time key es) here) ∙ alike key time later ∙ ap (λ b. (b && lasts time f) || is_withheld time key fs) there
 
 -- two lists in order that withhold the same are equal
-one_order : (now : ℕ) (es fs : List Entry) → IsInOrder now es → IsInOrder now fs → SameInForce now es fs → es ≡ fs
+one_order : (now : ℕ) (es fs : List ShutOffEntry) → IsInOrder now es → IsInOrder now fs → SameInForce now es fs → es ≡ fs
 one_order now [] [] left right alike = refl
 one_order now [] (f ∷ fs) left right alike = true_false (sym (head_there now f fs right.0) ∙ sym (alike f.to now (omega arith)))
 one_order now (e ∷ es) [] left right alike = true_false (sym (head_there now e es left.0) ∙ alike e.to now (omega arith))
@@ -253,26 +253,26 @@ one_order now (e ∷ es) (f ∷ fs) left right alike = by (is_before e.to f.to) 
         let up = head_until now e f es fs same left.0 left.1 alike in
         let down = head_until now f e fs es back right.0 right.1 (λ key time later. sym (alike key time later)) in
         let until : e.until ≡ f.until = omega arith in
-        let head : e ≡ f = ap (λ (key : KeyId). let entry : Entry = record { to = key; until = e.until } in entry) to ∙ ap (λ (n : ℕ). let entry : Entry = record { to = f.to; until = n } in entry) until in
+        let head : e ≡ f = ap (λ (key : KeyId). let entry : ShutOffEntry = record { to = key; until = e.until } in entry) to ∙ ap (λ (n : ℕ). let entry : ShutOffEntry = record { to = f.to; until = n } in entry) until in
         let tails : es ≡ fs = rest (same_tails now e f es fs same left.1 right.1 alike) in
-        ap (λ (x : Entry). x ∷ es) head ∙ ap (λ (l : List Entry). f ∷ l) tails
+        ap (λ (x : ShutOffEntry). x ∷ es) head ∙ ap (λ (l : List ShutOffEntry). f ∷ l) tails
 
 -- what withholds the same keys at now and later has the same keys in force
-pub same_in_force : (now : ℕ) (old new : List Entry) → SameInForce now old new → in_force now old ≡ in_force now new
+pub same_in_force : (now : ℕ) (old new : List ShutOffEntry) → SameInForce now old new → in_force now old ≡ in_force now new
 same_in_force now old new alike =
     one_order now (in_force now old) (in_force now new) (in_order now old) (in_order now new) (λ key time later.
     withheld_in_force now time key old later ∙ alike key time later ∙ sym (withheld_in_force now time key new later))
 
 -- and so it is with one entry more in both
-pub same_with_entry : (now : ℕ) (entry : Entry) (old new : List Entry) → SameInForce now old new → SameInForce now (entry ∷ old) (entry ∷ new)
+pub same_with_entry : (now : ℕ) (entry : ShutOffEntry) (old new : List ShutOffEntry) → SameInForce now old new → SameInForce now (entry ∷ old) (entry ∷ new)
 same_with_entry now entry old new alike = λ key time later. ap (λ b. withholds time key entry || b) (alike key time later)
 
 -- what is the same at now is the same later
-pub same_later : (now later : ℕ) (old new : List Entry) → now ≤ later → SameInForce now old new → SameInForce later old new
+pub same_later : (now later : ℕ) (old new : List ShutOffEntry) → now ≤ later → SameInForce now old new → SameInForce later old new
 same_later now later old new le alike = λ key time from. alike key time (omega arith)
 
 -- how many other keys are in force: one more where the entry is in force, of another key, which is not in force by the others
-pub others-cons : (now : ℕ) (to : KeyId) (e : Entry) (es : List Entry)
+pub others-cons : (now : ℕ) (to : KeyId) (e : ShutOffEntry) (es : List ShutOffEntry)
     → others_in_force now to (e ∷ es) ≡ (if lasts now e && (not (is_key e.to to) && not (is_withheld now e.to es)) then others_in_force now to es + 1 else others_in_force now to es)
 others-cons now to e es = by (lasts now e)
   where
@@ -291,7 +291,7 @@ others-cons now to e es = by (lasts now e)
     by false = refl
 
 -- how many keys are in force
-pub count-cons : (now : ℕ) (e : Entry) (es : List Entry) → lasts now e ≡ true → is_withheld now e.to es ≡ false → length (in_force now (e ∷ es)) ≡ suc (length (in_force now es))
+pub count-cons : (now : ℕ) (e : ShutOffEntry) (es : List ShutOffEntry) → lasts now e ≡ true → is_withheld now e.to es ≡ false → length (in_force now (e ∷ es)) ≡ suc (length (in_force now es))
 count-cons now e es lasting absent =
     ap (λ b. length (if b then with_greatest e (in_force now es) else in_force now es)) lasting
     ∙ sym (whole (with_greatest e (in_force now es)))
@@ -299,19 +299,19 @@ count-cons now e es lasting absent =
     ∙ ap (λ b. if not b then suc (length (filter (λ e. true) (in_force now es))) else length (filter (λ e. true) (in_force now es))) (withheld_in_force now now e.to es (omega arith) ∙ absent)
     ∙ ap suc (whole (in_force now es))
   where
-    whole : (l : List Entry) → length (filter (λ (e : Entry). true) l) ≡ length l
+    whole : (l : List ShutOffEntry) → length (filter (λ (e : ShutOffEntry). true) l) ≡ length l
     whole [] = refl
     whole (x ∷ xs) = ap suc (whole xs)
 
 -- entries that come after a key are of other keys
-others_after : (key to : KeyId) (es : List Entry) → is_key key to ≡ true → AllAfter key es → filter (λ e. not (is_key e.to to)) es ≡ es
+others_after : (key to : KeyId) (es : List ShutOffEntry) → is_key key to ≡ true → AllAfter key es → filter (λ e. not (is_key e.to to)) es ≡ es
 others_after key to [] same after = refl
 others_after key to (e ∷ es) same after =
     let apart : is_key e.to to ≡ false = key_laws.symm e.to to ∙ sym (key_laws.congr key to e.to same) ∙ before_apart key e.to after.0 in
     ap (λ b. if not b then e ∷ filter (λ e. not (is_key e.to to)) es else filter (λ e. not (is_key e.to to)) es) apart
-    ∙ ap (λ (l : List Entry). e ∷ l) (others_after key to es same after.1)
+    ∙ ap (λ (l : List ShutOffEntry). e ∷ l) (others_after key to es same after.1)
 
-one_of_key : (now : ℕ) (to : KeyId) (es : List Entry) → IsInOrder now es → length es ≤ suc (length (filter (λ e. not (is_key e.to to)) es))
+one_of_key : (now : ℕ) (to : KeyId) (es : List ShutOffEntry) → IsInOrder now es → length es ≤ suc (length (filter (λ e. not (is_key e.to to)) es))
 one_of_key now to [] order = omega arith
 one_of_key now to (e ∷ es) order = by (is_key e.to to) refl (one_of_key now to es order.2)
   where
@@ -321,16 +321,16 @@ one_of_key now to (e ∷ es) order = by (is_key e.to to) refl (one_of_key now to
     by true is rest = let whole = ap length (others_after e.to to es is order.1) in omega (arith, whole)
 
 -- all keys in force are the others and perhaps this
-pub few_in_force : (now : ℕ) (to : KeyId) (entries : List Entry) → length (in_force now entries) ≤ others_in_force now to entries + 1
+pub few_in_force : (now : ℕ) (to : KeyId) (entries : List ShutOffEntry) → length (in_force now entries) ≤ others_in_force now to entries + 1
 few_in_force now to entries = omega (arith, one_of_key now to (in_force now entries) (in_order now entries))
 
 -- an entry in force that is added is put among the keys in force
-pub in_force_added : (now : ℕ) (entry : Entry) (old new : List Entry) → lasts now entry ≡ true → SameInForce now (entry ∷ old) new → in_force now new ≡ with_greatest entry (in_force now old)
+pub in_force_added : (now : ℕ) (entry : ShutOffEntry) (old new : List ShutOffEntry) → lasts now entry ≡ true → SameInForce now (entry ∷ old) new → in_force now new ≡ with_greatest entry (in_force now old)
 in_force_added now entry old new lasting alike =
     sym (same_in_force now (entry ∷ old) new alike) ∙ ap (λ b. if b then with_greatest entry (in_force now old) else in_force now old) lasting
 
 -- an entry goes past one whose key comes before its own
-pub goes_past : (entry e : Entry) (es : List Entry) → is_before e.to entry.to ≡ true → with_greatest entry (e ∷ es) ≡ e ∷ with_greatest entry es
+pub goes_past : (entry e : ShutOffEntry) (es : List ShutOffEntry) → is_before e.to entry.to ≡ true → with_greatest entry (e ∷ es) ≡ e ∷ with_greatest entry es
 goes_past entry e es before =
     let apart : is_key entry.to e.to ≡ false = key_laws.symm entry.to e.to ∙ before_apart e.to entry.to before in
     ap (λ b. if b then entry ∷ (e ∷ es) else (if is_key entry.to e.to then greatest entry e ∷ es else e ∷ with_greatest entry es)) (not_before (is_before entry.to e.to) refl)
@@ -341,7 +341,7 @@ goes_past entry e es before =
     not_before true is = true_false (sym (key_laws.refl e.to) ∙ before_apart e.to e.to (before_all e.to entry.to e.to before is))
 
 -- where its key is there, the greater until stays
-pub meets_key : (entry e : Entry) (es : List Entry) → is_key entry.to e.to ≡ true → with_greatest entry (e ∷ es) ≡ greatest entry e ∷ es
+pub meets_key : (entry e : ShutOffEntry) (es : List ShutOffEntry) → is_key entry.to e.to ≡ true → with_greatest entry (e ∷ es) ≡ greatest entry e ∷ es
 meets_key entry e es same =
     ap (λ b. if b then entry ∷ (e ∷ es) else (if is_key entry.to e.to then greatest entry e ∷ es else e ∷ with_greatest entry es)) (not_before (is_before entry.to e.to) refl)
     ∙ ap (λ b. if b then greatest entry e ∷ es else e ∷ with_greatest entry es) same
@@ -351,16 +351,16 @@ meets_key entry e es same =
     not_before true is = true_false (sym same ∙ before_apart entry.to e.to is)
 
 -- and it stands before the first greater key
-pub goes_before : (entry e : Entry) (es : List Entry) → is_before e.to entry.to ≡ false → is_key entry.to e.to ≡ false → with_greatest entry (e ∷ es) ≡ entry ∷ (e ∷ es)
+pub goes_before : (entry e : ShutOffEntry) (es : List ShutOffEntry) → is_before e.to entry.to ≡ false → is_key entry.to e.to ≡ false → with_greatest entry (e ∷ es) ≡ entry ∷ (e ∷ es)
 goes_before entry e es after apart =
     ap (λ b. if b then entry ∷ (e ∷ es) else (if is_key entry.to e.to then greatest entry e ∷ es else e ∷ with_greatest entry es)) (comes_after e.to entry.to after (key_laws.symm e.to entry.to ∙ apart))
 
 -- the entry is put past those before this place
-abbrev pub IsPast : Entry → List Entry → ℕ → Type 0
+abbrev pub IsPast : ShutOffEntry → List ShutOffEntry → ℕ → Type 0
 IsPast entry entries place = with_greatest entry entries ≡ take place entries ++ with_greatest entry (drop place entries)
 
 -- an entry lasts at least until a time where it is in force one tick before
-pub covered_before : (until : ℕ) (to : KeyId) (entries : List Entry) → 1 ≤ until → is_covered until to entries ≡ is_withheld (until - 1) to entries
+pub covered_before : (until : ℕ) (to : KeyId) (entries : List ShutOffEntry) → 1 ≤ until → is_covered until to entries ≡ is_withheld (until - 1) to entries
 covered_before until to [] some = refl
 covered_before until to (e ∷ es) some =
     let test : nat_le until e.until ≡ nat_lt (until - 1) e.until = grind (arith, nat_tests) in

@@ -9,7 +9,7 @@ use Rattle.sent_log.specs.declared.log.Noted.{Noted}
 use Rattle.shutoff_filter.specs.Body.{order_in, shutoff_text_of, signature_in}
 use Rattle.shutoff_filter.specs.Entries.{others_in_force}
 use Rattle.shutoff_filter.specs.declared.bodies.Order.{Order}
-use Rattle.shutoff_filter.specs.declared.entries.Entry.{Entry}
+use Rattle.shutoff_filter.specs.declared.entries.ShutOffEntry.{ShutOffEntry}
 use Rattle.shutoff_filter.specs.declared.judging.Heard.{Heard}
 use Rattle.shutoff_filter.specs.declared.judging.Heard.TheVariants as heard
 
@@ -37,7 +37,7 @@ shutoff_verdict now frame logged full =
     body_verdict now frame.from frame.to frame.body logged full
 
 -- whether as many keys other than the source's are in force as there is room for
-abbrev pub is_full : ℕ → ℕ → Address → List Entry → Bool
+abbrev pub is_full : ℕ → ℕ → Address → List ShutOffEntry → Bool
 is_full room now from entries = nat_le room (others_in_force now (key_id_of from.eid) entries)
 
 -- whether the log holds the packet that the order complains of, for the source's key

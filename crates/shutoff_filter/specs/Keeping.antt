@@ -8,7 +8,7 @@ use Rattle.lease_disk.specs.Calls.{gated_calls}
 use Rattle.lease_disk.specs.declared.disk.Disk.{Ghosts}
 use Rattle.shutoff_filter.specs.Entries.{SameInForce, entries_of}
 use Rattle.shutoff_filter.specs.FilterFile.{IsFilter, open_gate, slot_at, slot_start}
-use Rattle.shutoff_filter.specs.declared.entries.Entry.{Entry}
+use Rattle.shutoff_filter.specs.declared.entries.ShutOffEntry.{ShutOffEntry}
 use Rattle.shutoff_filter.specs.declared.keeping.KeepEnd.{KeepEnd}
 use Rattle.shutoff_filter.specs.declared.slots.Slot.{Slot}
 use Rattle.shutoff_filter.specs.declared.slots.Slots.{Slots}
@@ -19,12 +19,12 @@ abbrev pub slots_at : ℕ → List ℕ → List Slot
 slots_at room file = map (slot_at file) (range_with_len 0 (room + 1))
 
 -- the entries of a file of this room
-abbrev pub entries_in : ℕ → List ℕ → List Entry
+abbrev pub entries_in : ℕ → List ℕ → List ShutOffEntry
 entries_in room file = entries_of (slots_at room file)
 
 -- An image of a filter that is written comes from one at the start: it has an open gate, its room and all its slots, it is
 -- as long as it was, and its entries are such.
-pub record IsImageOf (room : ℕ) (images : List ℕ → Type 0) (Such : List Entry → Type 0) (image : List ℕ) : Type 0 where
+pub record IsImageOf (room : ℕ) (images : List ℕ → Type 0) (Such : List ShutOffEntry → Type 0) (image : List ℕ) : Type 0 where
   pub before : List ℕ
   pub was : images before
   pub filter : IsFilter room image
@@ -32,7 +32,7 @@ pub record IsImageOf (room : ℕ) (images : List ℕ → Type 0) (Such : List En
   pub such : Such (entries_in room image)
 
 -- the same keys are withheld at now and at each later time, but perhaps with one entry more
-abbrev pub SameOrAdded : ℕ → Entry → List Entry → List Entry → Type 0
+abbrev pub SameOrAdded : ℕ → ShutOffEntry → List ShutOffEntry → List ShutOffEntry → Type 0
 SameOrAdded now entry old new = SameInForce now old new ⊎ SameInForce now (entry ∷ old) new
 
 -- the 27 bytes of an entry past its slot's gate

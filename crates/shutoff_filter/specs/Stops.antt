@@ -22,7 +22,7 @@ use Rattle.shutoff_filter.specs.ImageLaws.{body_filled, gate_filled, gate_writte
 use Rattle.shutoff_filter.specs.Keeping.{entries_in, entry_bytes, keep_calls}
 use Rattle.shutoff_filter.specs.SlotLaws.{spare_within}
 use Rattle.shutoff_filter.specs.Spare.{closing_calls, spare_in}
-use Rattle.shutoff_filter.specs.declared.entries.Entry.{Entry}
+use Rattle.shutoff_filter.specs.declared.entries.ShutOffEntry.{ShutOffEntry}
 use Rattle.shutoff_filter.specs.declared.slots.Slot.{Slot}
 
 -- a disk on which no call is listed to fail, no stop is armed, and no write waits for a sync
@@ -157,7 +157,7 @@ abbrev pub is_added : ℕ → ℕ → Bool
 is_added call fill = nat_le 3 call && (fill == open_gate)
 
 -- a filter file of this room and length, with such entries at now and later
-pub record HasInForce (room size now : ℕ) (entries : List Entry) (file : List ℕ) : Type 0 where
+pub record HasInForce (room size now : ℕ) (entries : List ShutOffEntry) (file : List ℕ) : Type 0 where
   pub filter : IsFilter room file
   pub long : length file ≡ size
   pub same : SameInForce now entries (entries_in room file)
@@ -170,7 +170,7 @@ module _ (disk : DiskState) (room now number : ℕ) (to : KeyId) (until : ℕ) (
   before = content_of disk.base disk.past
 
   -- the entry
-  abbrev entry : Entry
+  abbrev entry : ShutOffEntry
   entry = record { to = to; until = until }
 
   -- where a stop falls at the first or second call, its byte stands over what stands past the gate

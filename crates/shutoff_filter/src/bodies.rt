@@ -3,10 +3,10 @@ ghost use Rattle.std.specs.Prelude.{◌≡◌, ◌≤◌, IfOk, length, take, dr
 ghost use Rattle.aip_addr.specs.Ids.{address_bytes};
 ghost use Rattle.shutoff_filter.specs.Body.{order_in, shutoff_of, shutoff_text_of, text_tail};
 
-use aip_addr::{Address, Bytes, Memory};
+use aip_addr::{Address, Bytes};
 use byteorder::{BigEndian, ByteOrder};
 use lms_core::PublicKey;
-use std::alloc::Global;
+use std::alloc::{AllocError, Global};
 
 /// The least bytes that the body of a shut-off has.
 pub const SHORTEST: usize = 100;
@@ -69,7 +69,7 @@ pub fn shutoff_body(
     ttl: u32,
     key: &PublicKey,
     signature: &[u8],
-) -> Result<Bytes, Memory>
+) -> Result<Bytes, AllocError>
     ensures { IfOk result (λ body. body ≡ shutoff_of hash.now issue ttl key.now signature.now) }
 {
     let mut tail = [0; 44];

@@ -1,8 +1,8 @@
 // Formatting a filter file.
-ghost use Rattle.std.specs.Prelude.{◌≡◌, ◌+◌, ◌*◌, ◌<◌, ◌≤◌, ◌++◌, [], ◌∷◌, ℕ, List, Some, true, max, length, take, replicate, option_map, not, is_ok, is_err, OnOk};
+ghost use Rattle.std.specs.Prelude.{◌≡◌, ◌+◌, ◌*◌, ◌<◌, ◌≤◌, ◌++◌, [], ◌∷◌, ℕ, List, Some, true, max, length, take, replicate, option_map, not, is_ok, OnOk, IsErr};
 ghost use Rattle.std.specs.Option.{ForSome};
 ghost use Rattle.lease_disk.specs.Calls.{Ran};
-ghost use Rattle.lease_disk.specs.Causes.{HasCause};
+ghost use Rattle.fault_counts.specs.Causes.{HasCause};
 ghost use Rattle.lease_disk.specs.Images.{OnlyLooks, AtEachMoment};
 ghost use Rattle.lease_disk.specs.Shows.{Shows};
 ghost use Rattle.shutoff_filter.specs.FilterFile.{file_size};
@@ -60,7 +60,7 @@ fn write_fresh<D: Disk>(disk: &mut D, room: u16) -> Result<(), Failed>
     ensures lengths { (longest : ℕ) → ((image : List ℕ) → D.may_leave disk.old image → length image ≤ longest)
         → AtEachMoment D.clock D.during disk.old disk.new (λ image. length image ≤ max longest (file_size room)) }
     ensures clock { D.clock disk.new ≤ D.clock disk.old + 6 }
-    ensures cause { HasCause (D.faults disk.old) (D.faults disk.new) (is_err result) }
+    ensures cause { HasCause (IsErr result) (D.faults disk.old) (D.faults disk.new) }
     ensures calls { Ran D.led disk.old (fresh_calls room) (is_ok result) disk.new }
 {
     let mut buffer = [0; LARGEST];
@@ -82,7 +82,7 @@ pub fn format_store<D: Disk>(disk: D, room: u16) -> Result<D, StoreFormatEnd<D>>
     ensures content { OnOk result (D.now (formatted_disk result) ≡ option_map (formatted room) (D.now disk)) }
     ensures fresh { OnOk result ((image : List ℕ) → D.may_leave (formatted_disk result) image → take (file_size room) image ≡ fresh_file room) }
     ensures firm { OnOk result ((image : List ℕ) → D.may_leave (formatted_disk result) image → D.now (formatted_disk result) ≡ Some image) }
-    ensures cause { HasCause (D.faults disk) (D.faults (formatted_disk result)) (format_failed result) }
+    ensures cause { HasCause (format_failed result ≡ true) (D.faults disk) (D.faults (formatted_disk result)) }
 
     // No image of a moment is longer than the longest at the start, or than the file.
     ensures lengths { (longest : ℕ) → ((image : List ℕ) → D.may_leave disk image → length image ≤ longest)

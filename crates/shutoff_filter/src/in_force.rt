@@ -3,10 +3,10 @@ ghost use Rattle.std.specs.Prelude.{◌≡◌, ◌<◌, ◌≤◌, ◌&&◌, ℕ
 ghost use Rattle.shutoff_filter.specs.Entries.{entries_of, entry_of, greatest, in_force, is_before, is_key, with_greatest};
 ghost use Rattle.shutoff_filter.specs.InForce.{entry_in, IsPast};
 
-use crate::entries::Entry;
+use crate::entries::ShutOffEntry;
 use crate::slots::Slot;
-use aip_addr::{KeyId, Memory};
-use std::alloc::Global;
+use aip_addr::KeyId;
+use std::alloc::{AllocError, Global};
 
 // Whether the one key identifier comes before the other.
 fn is_before(a: &KeyId, b: &KeyId) -> bool
@@ -16,7 +16,7 @@ fn is_before(a: &KeyId, b: &KeyId) -> bool
 }
 
 // Where the key identifier stands among these, or would stand.
-fn place_of(kept: &[Entry], to: &KeyId) -> usize
+fn place_of(kept: &[ShutOffEntry], to: &KeyId) -> usize
     ensures within { result ≤ length kept.now }
     ensures passed { (until : ℕ) → IsPast (record { to = to.now; until = until }) kept.now result }
     ensures stops { result < length kept.now → is_before (entry_in kept.now result).to to.now ≡ false }
@@ -30,26 +30,26 @@ fn place_of(kept: &[Entry], to: &KeyId) -> usize
 }
 
 // Whether the key identifier stands at this place.
-fn stands_at(kept: &[Entry], place: usize, to: &KeyId) -> bool
+fn stands_at(kept: &[ShutOffEntry], place: usize, to: &KeyId) -> bool
     ensures { result ≡ nat_lt place (length kept.now) && is_key to.now (entry_in kept.now place).to }
 {
     place < kept.len() && *to == kept[place].to
 }
 
 // Lets the greater until of the entry at this place and of another stay.
-fn raise(kept: &mut Vec<Entry>, place: usize, entry: &Entry)
+fn raise(kept: &mut Vec<ShutOffEntry>, place: usize, entry: &ShutOffEntry)
     requires { place < length kept.old.items }
     ensures { kept.new.items ≡ slice_set kept.old.items place (greatest entry.now (entry_in kept.old.items place)) }
 {
     let old = kept[place];
-    kept[place] = Entry {
+    kept[place] = ShutOffEntry {
         to: old.to,
         until: entry.until.max(old.until),
     };
 }
 
 // Puts an entry among others that ascend by key.
-fn put_greatest(kept: &mut Vec<Entry>, entry: Entry) -> Result<(), Memory>
+fn put_greatest(kept: &mut Vec<ShutOffEntry>, entry: ShutOffEntry) -> Result<(), AllocError>
     ensures { OnOk result (kept.new.items ≡ with_greatest entry kept.old.items) }
 {
     let place = place_of(kept, &entry.to);
@@ -63,7 +63,7 @@ fn put_greatest(kept: &mut Vec<Entry>, entry: Entry) -> Result<(), Memory>
 
 /// The keys in force by the entries of these slots, in ascending order of their bytes, each with its greatest until. The
 /// only error is want of memory.
-pub fn in_force(slots: &[Slot], alloc: Global, now: u64) -> Result<Vec<Entry>, Memory>
+pub fn in_force(slots: &[Slot], alloc: Global, now: u64) -> Result<Vec<ShutOffEntry>, AllocError>
     ensures { IfOk result (λ kept. kept.items ≡ in_force now (entries_of slots.now)) }
 {
     match slots {

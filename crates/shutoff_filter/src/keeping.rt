@@ -1,7 +1,7 @@
 // How a filter takes an entry.
 ghost use Rattle.std.specs.Prelude.{◌≡◌, ◌+◌, ◌<◌, ◌≤◌, ◌^◌, [], ◌∷◌, ℕ, List, None, Some, true, false, not, take, drop, length, slice_set, IfOk, IfSome, IsSome, OnOk, OnErr};
 ghost use Rattle.lease_disk.specs.Calls.{Ran, firm_calls};
-ghost use Rattle.lease_disk.specs.Causes.{HasCause};
+ghost use Rattle.fault_counts.specs.Causes.{HasCause};
 ghost use Rattle.lease_disk.specs.Images.{AtEachMoment};
 ghost use Rattle.shutoff_filter.specs.Entries.{SameInForce, entries_of, in_force};
 ghost use Rattle.shutoff_filter.specs.FilterFile.{slot_in, slot_start};
@@ -43,7 +43,7 @@ impl<D: Disk> FilterStore<D> {
         ensures firm { OnOk result ((image : List ℕ) → D.may_leave (kept_disk result) image → D.now (kept_disk result) ≡ Some image) }
         ensures room { (kept_slots result).room ≡ room_of self }
         ensures slots { OnErr result (kept_slots result ≡ self.slots) }
-        ensures cause { HasCause (D.faults (disk_of self)) (D.faults (kept_disk result)) (keep_failed result) }
+        ensures cause { HasCause (keep_failed result ≡ true) (D.faults (disk_of self)) (D.faults (kept_disk result)) }
         ensures clock { D.clock (kept_disk result) ≤ D.clock (disk_of self) + 2 }
         ensures calls { Ran D.led (disk_of self) (closing_calls (slots_of self) (spare_in now (slots_of self)))
             (not (keep_failed result)) (kept_disk result) }
@@ -87,7 +87,7 @@ impl<D: Disk> FilterStore<D> {
         ensures firm { OnOk result ((image : List ℕ) → D.may_leave (kept_disk result) image → D.now (kept_disk result) ≡ Some image) }
         ensures room { (kept_slots result).room ≡ room_of self }
         ensures slots { OnErr result (kept_slots result ≡ self.slots) }
-        ensures cause { HasCause (D.faults (disk_of self)) (D.faults (kept_disk result)) (keep_failed result) }
+        ensures cause { HasCause (keep_failed result ≡ true) (D.faults (disk_of self)) (D.faults (kept_disk result)) }
         ensures clock { D.clock (kept_disk result) ≤ D.clock (disk_of self) + 2 }
         ensures calls { Ran D.led (disk_of self) (firm_calls (slot_start number) (0 ∷ [])) (not (keep_failed result)) (kept_disk result) }
     {
@@ -133,7 +133,7 @@ impl<D: Disk> FilterStore<D> {
         ensures firm { OnOk result ((image : List ℕ) → D.may_leave (kept_disk result) image → D.now (kept_disk result) ≡ Some image) }
         ensures room { (kept_slots result).room ≡ room_of self }
         ensures slots { OnErr result (kept_slots result ≡ self.slots) }
-        ensures cause { HasCause (D.faults (disk_of self)) (D.faults (kept_disk result)) (keep_failed result) }
+        ensures cause { HasCause (keep_failed result ≡ true) (D.faults (disk_of self)) (D.faults (kept_disk result)) }
         ensures clock { D.clock (kept_disk result) ≤ D.clock (disk_of self) + 4 }
         ensures calls { IfSome (spare_of self) (λ number.
             Ran D.led (disk_of self) (keep_calls number to.now until) (not (keep_failed result)) (kept_disk result)) }
@@ -155,7 +155,7 @@ impl<D: Disk> FilterStore<D> {
         ensures firm { OnOk result ((image : List ℕ) → D.may_leave (kept_disk result) image → D.now (kept_disk result) ≡ Some image) }
         ensures room { (kept_slots result).room ≡ room_of self }
         ensures slots { OnErr result (kept_slots result ≡ self.slots) }
-        ensures cause { HasCause (D.faults (disk_of self)) (D.faults (kept_disk result)) (keep_failed result) }
+        ensures cause { HasCause (keep_failed result ≡ true) (D.faults (disk_of self)) (D.faults (kept_disk result)) }
         ensures clock { D.clock (kept_disk result) ≤ D.clock (disk_of self) + 4 }
         ensures calls { IfSome (spare_of self) (λ number.
             Ran D.led (disk_of self) (keep_calls number to.now until) (not (keep_failed result)) (kept_disk result)) }

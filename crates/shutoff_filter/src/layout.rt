@@ -19,6 +19,12 @@ pub const SLOT: usize = 28;
 /// The size of the largest filter file, of a room of 256.
 pub const LARGEST: usize = 7199;
 
+/// The calls of the disk that write, in keeping one entry: three writes, each with a sync.
+pub const KEEP_CALLS: usize = 6;
+
+/// The bytes that keeping one entry writes at most: a gate that is closed, the entry, and its gate.
+pub const KEEP_BYTES: usize = 29;
+
 /// How many bytes the file of a filter with that room has.
 pub fn file_size(room: u16) -> usize
     requires { room ≤ 256 }

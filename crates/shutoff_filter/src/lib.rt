@@ -27,13 +27,13 @@ mod spare;
 mod store;
 mod writing;
 
-pub use aip_addr::Memory;
 pub use bodies::{shutoff_body, shutoff_text};
-pub use entries::Entry;
+pub use entries::ShutOffEntry;
 pub use formatting::{StoreFormatEnd, format_store};
 pub use judging::Heard;
 pub use keeping::KeepEnd;
 pub use laws::what_is_in_force_is_listed;
+pub use layout::{KEEP_BYTES, KEEP_CALLS, file_size};
 pub use opening::StoreEnd;
 pub use slots::Slots;
 pub use store::FilterStore;

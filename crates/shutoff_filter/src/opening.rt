@@ -1,9 +1,9 @@
 // Opening a filter file.
-ghost use Rattle.std.specs.Prelude.{◌≡◌, ◌+◌, ◌*◌, ◌<◌, ◌≤◌, [], ◌∷◌, ℕ, List, Some, not, OnOk, length, drop, slice_index};
+ghost use Rattle.std.specs.Prelude.{◌≡◌, ◌+◌, ◌*◌, ◌<◌, ◌≤◌, [], ◌∷◌, ℕ, List, Some, not, OnOk, length, drop, slice_index, true};
 ghost use Rattle.std.specs.Option.{ForSome};
 ghost use Rattle.lease_disk.specs.Call.{Len, Read, Sync};
 ghost use Rattle.lease_disk.specs.Calls.{Ran};
-ghost use Rattle.lease_disk.specs.Causes.{HasCause};
+ghost use Rattle.fault_counts.specs.Causes.{HasCause};
 ghost use Rattle.lease_disk.specs.Images.{AtEachMoment};
 ghost use Rattle.lease_disk.specs.Kept.{KeepsByte, NoLongerThan};
 ghost use Rattle.shutoff_filter.specs.FilterFile.{file_size, slot_at, slot_in};
@@ -69,7 +69,7 @@ impl<D: Disk> FilterStore<D> {
         ensures says { ForSome (D.now disk) (λ file. OpenSays slots file result) }
         ensures slots { GivesSlots slots result }
         ensures content { D.now (opened_disk result) ≡ D.now disk }
-        ensures cause { HasCause (D.faults disk) (D.faults (opened_disk result)) (open_failed result) }
+        ensures cause { HasCause (open_failed result ≡ true) (D.faults disk) (D.faults (opened_disk result)) }
 
         // Each image of each moment, whatever the answer, is one of those at the start: bytes, lengths and entries stay.
         ensures moments { AtEachMoment D.clock D.during disk (opened_disk result) (D.may_leave disk) }

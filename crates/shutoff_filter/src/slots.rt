@@ -4,9 +4,9 @@ ghost use Rattle.std.specs.List.{list_any};
 ghost use Rattle.shutoff_filter.specs.Entries.{entries_of, entry_of, is_covered, is_withheld, others_in_force};
 ghost use Rattle.shutoff_filter.specs.Slots.{closed_slot, counts, covers, fresh_slots, holds};
 
-use crate::entries::Entry;
-use aip_addr::{KeyId, Memory};
-use std::alloc::Global;
+use crate::entries::ShutOffEntry;
+use aip_addr::KeyId;
+use std::alloc::{AllocError, Global};
 
 /// One slot of a filter: a key identifier that is withheld until a time, where it is open.
 #[derive(Clone, Copy, Debug, PartialEq, Eq)]
@@ -28,10 +28,10 @@ impl Slot {
     }
 
     /// Its entry, where it is open.
-    pub fn entry(&self) -> Entry
+    pub fn entry(&self) -> ShutOffEntry
         ensures { result ≡ entry_of self.now }
     {
-        Entry {
+        ShutOffEntry {
             to: self.to,
             until: self.until,
         }
@@ -58,7 +58,7 @@ pub struct Slots {
 impl Slots {
     /// Slots for a filter with room for so many keys in force, 1 to 256. It reserves all the memory that the filter
     /// takes. The only error is want of memory.
-    pub fn new(alloc: Global, room: u16) -> Result<Slots, Memory>
+    pub fn new(alloc: Global, room: u16) -> Result<Slots, AllocError>
         requires some { 1 ≤ room }
         requires few { room ≤ 256 }
         ensures { IfOk result (λ slots. (slots.room ≡ room) × (slots.slots.items ≡ fresh_slots room)) }

@@ -8,14 +8,14 @@ ghost use Rattle.shutoff_filter.specs.Body.{order_in};
 ghost use Rattle.shutoff_filter.specs.FilterFile.{IsFilterOf, slot_in};
 ghost use Rattle.shutoff_filter.specs.Judged.{is_full, is_in_log, shutoff_verdict};
 
-use crate::entries::Entry;
+use crate::entries::ShutOffEntry;
 use crate::in_force::in_force;
 use crate::judging::{Heard, judge};
 use crate::slots::{Slots, is_covered, is_withheld};
-use aip_addr::{KeyId, Memory};
+use aip_addr::KeyId;
 use lease_disk::{Disk, MemDisk};
 use sent_log::SentLog;
-use std::alloc::Global;
+use std::alloc::{AllocError, Global};
 
 /// A filter on a disk: the key identifiers that a host must not send to, each until a time.
 #[derive(Drop)]
@@ -57,7 +57,7 @@ impl<D: Disk> FilterStore<D> {
 
     /// The keys in force at a time, in ascending order of their bytes, each with its greatest until. The only error is want
     /// of memory.
-    pub fn kept(&self, alloc: Global, now: u64) -> Result<Vec<Entry>, Memory>
+    pub fn kept(&self, alloc: Global, now: u64) -> Result<Vec<ShutOffEntry>, AllocError>
         requires soon { now < 2 ^ 48 }
         ensures { IfOk result (λ kept. kept.items ≡ in_force now (entries_of (slots_of self.now))) }
     {
@@ -107,7 +107,7 @@ impl FilterStore<MemDisk> {
 
     /// Makes place in the record of the disk for so many further entries, with so many bytes in all. Where memory is
     /// wanting, the disk stays as it was.
-    pub fn reserve(&mut self, calls: usize, bytes: usize) -> Result<(), Memory>
+    pub fn reserve(&mut self, calls: usize, bytes: usize) -> Result<(), AllocError>
         ensures ok { OnOk result (disk_of self.new ≡ reserved (disk_of self.old) calls bytes) }
         ensures err { OnErr result (disk_of self.new ≡ disk_of self.old) }
         ensures same { (self.new.slots ≡ self.old.slots) × (spare_of self.new ≡ spare_of self.old) }

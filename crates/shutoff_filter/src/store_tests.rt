@@ -8,8 +8,8 @@ use std::alloc::Global;
 use std::test::Fail;
 
 // The entry of a key that is named by its bytes.
-pub(crate) fn entry(key: u8) -> Entry {
-    Entry {
+pub(crate) fn entry(key: u8) -> ShutOffEntry {
+    ShutOffEntry {
         to: KeyId { bytes: [key; 19] },
         until: match key {
             1 => 20,
@@ -60,7 +60,7 @@ pub(crate) fn new_filter(
 // Adds an entry where a slot is spare.
 pub(crate) fn added(
     store: FilterStore<MemDisk>,
-    new: &Entry,
+    new: &ShutOffEntry,
     now: u64,
 ) -> Result<FilterStore<MemDisk>, KeepEnd<MemDisk>>
     requires { now < 2 ^ 48 }

@@ -8,7 +8,7 @@ use lease_disk::MemDisk;
 use lms_core::{Height, Tree, Width, signature_len};
 use sent_log::SentLog;
 use sha2::{Digest, Sha256};
-use std::alloc::Global;
+use std::alloc::{AllocError, Global};
 use std::test::Fail;
 
 // The hash of the packet that host a sent to host b.
@@ -63,7 +63,7 @@ fn shutoff(alloc: Global, issue: u64) -> Result<Vec<u8>, Fail> {
 }
 
 // A log with the packet to b.
-fn log(alloc: Global) -> Result<SentLog, Memory> {
+fn log(alloc: Global) -> Result<SentLog, AllocError> {
     let mut log = SentLog::new(alloc, 4)?;
     log.note(&HASH, &Id { bytes: HOST_B }.key_id());
     Ok(log)

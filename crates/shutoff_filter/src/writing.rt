@@ -1,7 +1,7 @@
 // The writes of a filter, over every disk.
-ghost use Rattle.std.specs.Prelude.{◌≡◌, ◌+◌, ◌≤◌, [], ◌∷◌, ℕ, List, Some, length, option_map, is_ok, is_err, OnOk};
+ghost use Rattle.std.specs.Prelude.{◌≡◌, ◌+◌, ◌≤◌, [], ◌∷◌, ℕ, List, Some, length, option_map, is_ok, OnOk, IsErr};
 ghost use Rattle.lease_disk.specs.Calls.{Ran, firm_calls};
-ghost use Rattle.lease_disk.specs.Causes.{HasCause};
+ghost use Rattle.fault_counts.specs.Causes.{HasCause};
 ghost use Rattle.lease_disk.specs.Images.{AtEachMoment, overwritten};
 ghost use Rattle.lease_disk.specs.Kept.{AfterWrite, WhileGated, gated};
 ghost use Rattle.shutoff_filter.specs.FilterFile.{open_gate, slot_start};
@@ -18,7 +18,7 @@ pub fn shut_gate<D: Disk>(disk: &mut D, number: u16) -> Result<(), Failed>
     ensures firm { OnOk result ((image : List ℕ) → D.may_leave disk.new image → D.now disk.new ≡ Some image) }
     ensures moments { AtEachMoment D.clock D.during disk.old disk.new (AfterWrite (D.may_leave disk.old) (slot_start number) 1) }
     ensures clock { D.clock disk.new ≤ D.clock disk.old + 2 }
-    ensures cause { HasCause (D.faults disk.old) (D.faults disk.new) (is_err result) }
+    ensures cause { HasCause (IsErr result) (D.faults disk.old) (D.faults disk.new) }
     ensures calls { Ran D.led disk.old (firm_calls (slot_start number) (0 ∷ [])) (is_ok result) disk.new }
 {
     write_firm(disk, slot_start(number), &[0])
@@ -33,7 +33,7 @@ pub fn write_slot<D: Disk>(disk: &mut D, number: u16, to: &KeyId, until: u64) ->
     ensures moments { AtEachMoment D.clock D.during disk.old disk.new
         (WhileGated (D.may_leave disk.old) (D.now disk.old) (slot_start number) (entry_bytes to.now until)) }
     ensures clock { D.clock disk.new ≤ D.clock disk.old + 4 }
-    ensures cause { HasCause (D.faults disk.old) (D.faults disk.new) (is_err result) }
+    ensures cause { HasCause (IsErr result) (D.faults disk.old) (D.faults disk.new) }
     ensures calls { Ran D.led disk.old (keep_calls number to.now until) (is_ok result) disk.new }
 {
     let start = slot_start(number);

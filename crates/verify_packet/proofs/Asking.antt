@@ -5,7 +5,7 @@ use Rattle.byteorder.specs.Endian.{big_bytes, big_number}
 use Rattle.byteorder.specs.Numbers.{big_number-reads_back}
 use Rattle.aip_addr.specs.declared.ids.Address.{Address}
 use Rattle.aip_addr.specs.Ids.{address_bytes, address_of}
-use Rattle.verify_packet.specs.Challenge.{Asked, Fits, IsWhole, asked_bytes, asked_in, challenge_of, tag_of}
+use Rattle.verify_packet.specs.Challenge.{Asked, AskedFits, IsWhole, asked_bytes, asked_in, challenge_of, tag_of}
 use Rattle.verify_packet.specs.declared.challenges.RouterKey.{RouterKey}
 
 length_of : (a : Address) → IsWhole a → length (address_bytes a) ≡ 40
@@ -35,7 +35,7 @@ number_first n x rest e lt =
     ap (λ (t : List ℕ). big_number n t) (take_at (big_bytes n x) rest n e ∙ sym (append-nil (big_bytes n x))) ∙ big_number-reads_back n x [] lt
 
 -- what is asked, read from its bytes with more behind them
-read_back : (asked : Asked) (more : List ℕ) → Fits asked → asked_in (asked_bytes asked ++ more) ≡ asked
+read_back : (asked : Asked) (more : List ℕ) → AskedFits asked → asked_in (asked_bytes asked ++ more) ≡ asked
 unfolding asked_in
 read_back asked more h =
     let r : List ℕ = address_bytes asked.router in
@@ -58,12 +58,12 @@ read_back asked more h =
     ∙ number_first 8 asked.epoch more refl h.epoch)
 
 -- what a challenge asks is read from it
-pub challenge_read : (router : RouterKey) (asked : Asked) → Fits asked → asked_in (challenge_of router asked) ≡ asked
+pub challenge_read : (router : RouterKey) (asked : Asked) → AskedFits asked → asked_in (challenge_of router asked) ≡ asked
 unfolding challenge_of
 challenge_read router asked h = read_back asked (tag_of router asked.epoch (asked_bytes asked)) h
 
 -- the same of its parts, as they are written
-pub parts_read : (router : RouterKey) (asked : Asked) (bytes tag : List ℕ) → bytes ≡ asked_bytes asked → Fits asked → asked_in (bytes ++ tag) ≡ asked
+pub parts_read : (router : RouterKey) (asked : Asked) (bytes tag : List ℕ) → bytes ≡ asked_bytes asked → AskedFits asked → asked_in (bytes ++ tag) ≡ asked
 parts_read router asked bytes tag b h = rw b (read_back asked tag h)
 
 -- the parts of a challenge, as they are written

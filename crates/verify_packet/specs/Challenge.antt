@@ -21,7 +21,7 @@ pub record IsWhole (a : Address) : Type 0 where
   pub eid : length a.eid.bytes ≡ 20
 
 -- what is asked has its sizes
-pub record Fits (asked : Asked) : Type 0 where
+pub record AskedFits (asked : Asked) : Type 0 where
   pub router : IsWhole asked.router
   pub source : IsWhole asked.source
   pub hash : length asked.hash ≡ 32

@@ -1,7 +1,7 @@
 -- Responses: how a source answers a challenge, and when a router takes the answer.
 use Rattle.std.specs.Prelude.{ℕ, ◌+◌, ◌==◌, ◌&&◌, ◌||◌, Bool, true, false, not, if◌then◌else◌, nat_lt, nat_le, List, ◌++◌, length, take, drop, codes}
 use Rattle.std.specs.Str.{bytes_eq}
-use Rattle.aip_addr.specs.Ids.{is_owner}
+use Rattle.aip_addr.specs.Ids.{is_owner, is_same_address}
 use Rattle.aip_addr.specs.declared.ids.Address.{Address}
 use Rattle.aip_frame.specs.declared.frame.Frame.{Frame}
 use Rattle.lms_core.specs.Verify.{is_valid_signature}
@@ -29,10 +29,6 @@ key_in body = take 56 (drop 154 body)
 -- the signature in a response, behind the key to the end of its body
 abbrev pub signature_in : List ℕ → List ℕ
 signature_in body = drop 56 (drop 154 body)
-
--- two addresses are the same
-abbrev pub is_same_address : Address → Address → Bool
-is_same_address a b = bytes_eq a.ad.bytes b.ad.bytes && bytes_eq a.eid.bytes b.eid.bytes
 
 -- the challenge was this router's, and asked this source
 unfoldable pub is_asked : RouterKey → Address → Asked → Bool

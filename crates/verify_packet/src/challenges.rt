@@ -2,7 +2,7 @@
 ghost use Rattle.std.specs.Prelude.{◌≡◌, ◌<◌, ◌≤◌, ◌+◌, length, take, drop};
 ghost use Rattle.byteorder.specs.Endian.{big_bytes, big_number};
 ghost use Rattle.aip_addr.specs.Ids.{address_bytes, address_of};
-ghost use Rattle.verify_packet.specs.Challenge.{Fits, asked_bytes, asked_in, challenge_of, epoch_at, tag_of};
+ghost use Rattle.verify_packet.specs.Challenge.{AskedFits, asked_bytes, asked_in, challenge_of, epoch_at, tag_of};
 
 use aip_addr::Address;
 use aip_mac::{hmac, secret};
@@ -86,7 +86,7 @@ fn write_asked(
       port = port;
       epoch = epoch;
     }) }
-    ensures fits { Fits (record {
+    ensures fits { AskedFits (record {
       router = router.now;
       source = source.now;
       hash = hash.now;

@@ -19,7 +19,6 @@
 mod challenges;
 mod responses;
 
-pub use aip_addr::Memory;
 pub use challenges::{RouterKey, asked_hash, asked_router, asked_source, challenge};
 pub use responses::{Checked, check, response_body, response_text};
 

@@ -10,10 +10,10 @@ use crate::challenges::{
     ASKED_LEN, RouterKey, asked_epoch, asked_port, asked_router, asked_source, asked_tag,
     router_tag,
 };
-use aip_addr::{Address, Bytes, Memory, owns};
+use aip_addr::{Address, Bytes, owns};
 use aip_frame::{body_of, from_of};
 use lms_core::{PublicKey, verify_under};
-use std::alloc::Global;
+use std::alloc::{AllocError, Global};
 
 /// How a response is judged: the source is proved, or the first reason why not.
 #[derive(Clone, Copy, Debug, PartialEq, Eq)]
@@ -77,7 +77,7 @@ pub fn response_body(
     asked: &[u8; 154],
     key: &PublicKey,
     signature: &[u8],
-) -> Result<Bytes, Memory>
+) -> Result<Bytes, AllocError>
     ensures { IfOk result (λ body. body ≡ response_of asked.now key.now signature.now) }
 {
     let mut body = Vec::with_capacity(alloc, 210 + signature.len())?;

@@ -13,4 +13,4 @@ pieces-preserved g c =
     let rest : take (length c.args.bytes.now - c.pieces.at) (drop c.pieces.at c.args.bytes.now) ≡ drop c.pieces.at c.args.bytes.now = rest_of c.pieces.at c.args.bytes.now in
     let took = rw rest at c.in_ok-at.ensures.took in
     let within = rw rest at c.in_ok-at.ensures.within in
-    (omega (arith, length-drop c.pieces.at c.args.bytes.now), took_more _ _ _ c.pieces.at _ _ c.pieces.invariant.1 took, c.in_ok-at.ensures.cause.stays ∙ c.pieces.invariant.2)
+    (omega (arith, length-drop c.pieces.at c.args.bytes.now), took_more _ _ _ c.pieces.at _ _ c.pieces.invariant.1 took, c.in_ok-at.ensures.cause.stays (λ is. cc) ∙ c.pieces.invariant.2)

@@ -1,6 +1,6 @@
 use Rattle.std.proofs.Common.{◌≡◌, ℕ, ◌≤◌, ◌-◌, List, []}
 use Rattle.std.specs.Prelude.{IfSome}
-use Rattle.aip_text.specs.Lines.{lines_of}
+use Rattle.aip_text.specs.Lines.{lines_of, most_line_bytes}
 use Rattle.aip_io.specs.Lines.{left_of}
 use Rattle.aip_topo.specs.declared.topology.Topology.{Topology}
 use Rattle.aip_rules.specs.Texts.{ran}
@@ -12,7 +12,7 @@ use Rattle.aip_sim.proofs.runs.play.Given as goal
 abbrev pub invariant-turns : goal.invariant-turns
 invariant-turns g l = record {
   few : l.number ≤ 65537;
-  most : l.lines.most ≡ 20000;
+  most : l.lines.most ≡ most_line_bytes;
   text : (other : List ℕ) → g.S.Shelf.text l.shelf other ≡ g.S.Shelf.text l.fn.shelf other;
   reads : (other : List ℕ) → g.S.Shelf.faults l.shelf other ≡ g.S.Shelf.faults l.fn.shelf other;
   sink : g.K.Sink.faults l.out ≡ g.K.Sink.faults l.fn.out;

@@ -1,5 +1,5 @@
 use Rattle.std.proofs.Common.{inl, inr, refl, subst}
-use Rattle.aip_io.specs.Causes.{Rose}
+use Rattle.fault_counts.specs.Causes.{Rose}
 use Rattle.aip_sim.proofs.Running.{judges_opened, judges_unopened, reads_on, stood, unopened, wrote}
 use Rattle.aip_sim.proofs.runs.run.Goals as goal
 

@@ -1,5 +1,5 @@
 use Rattle.std.proofs.Common.{subst}
-use Rattle.aip_io.specs.Causes.{Rose}
+use Rattle.fault_counts.specs.Causes.{Rose}
 use Rattle.aip_top.proofs.Early.{unaddressed}
 use Rattle.aip_top.proofs.address.address.Goals as goal
 

@@ -1,5 +1,5 @@
 use Rattle.std.proofs.Common.{subst}
-use Rattle.aip_io.specs.Causes.{Rose}
+use Rattle.fault_counts.specs.Causes.{Rose}
 use Rattle.aip_top.specs.Recording.{drafted_of}
 use Rattle.aip_top.proofs.Recorded.{before_disk, keeps_done, keeps_same, of_draft}
 use Rattle.aip_top.proofs.issue.issue.Goals as goal

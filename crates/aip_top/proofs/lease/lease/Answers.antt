@@ -1,5 +1,5 @@
 use Rattle.std.proofs.Common.{subst}
-use Rattle.aip_io.specs.Causes.{Rose}
+use Rattle.fault_counts.specs.Causes.{Rose}
 use Rattle.aip_top.specs.Leasing.{asked_of}
 use Rattle.aip_top.proofs.Leases.{before, reached}
 use Rattle.aip_top.proofs.lease.lease.Goals as goal

@@ -1,5 +1,5 @@
 use Rattle.std.proofs.Common.{◌⊎◌, inl, inr, subst}
-use Rattle.aip_io.specs.Causes.{Rose}
+use Rattle.fault_counts.specs.Causes.{Rose}
 use Rattle.aip_sim.proofs.Running.{reads_on}
 use Rattle.aip_top.proofs.RecordLists.{listed, unlisted}
 use Rattle.aip_top.proofs.registry.registry.Goals as goal

@@ -18,17 +18,17 @@ invariant_of-result g c =
 
 pub returns-in-Free-clause-calls : goal.returns-in-Free-clause-calls
 returns-in-Free-clause-calls g c =
-    let size : length c.split_at_mut-bytes.result.0.now ≡ 18 + 2 ^ c.args.height = omega (arith, c.split_at_mut-bytes.ensures.front_len, c.leaf_count.ensures.count) in
+    let size : length c.split_at_mut-bytes.result.0.now ≡ 18 + 2 ^ c.args.height = omega (arith, c.split_at_mut-bytes.ensures.front_len, c.file_size.ensures.size) in
     subst (λ n. Ran g.D.Disk.led c.args.disk (Sync ∷ Len ∷ Read 0 n ∷ []) true c.inspect_firm.new.disk) size c.in-Ok.ensures.calls
 
 pub returns-in-Unformatted-clause-calls : goal.returns-in-Unformatted-clause-calls
 returns-in-Unformatted-clause-calls g c =
-    let size : length c.split_at_mut-bytes.result.0.now ≡ 18 + 2 ^ c.args.height = omega (arith, c.split_at_mut-bytes.ensures.front_len, c.leaf_count.ensures.count) in
+    let size : length c.split_at_mut-bytes.result.0.now ≡ 18 + 2 ^ c.args.height = omega (arith, c.split_at_mut-bytes.ensures.front_len, c.file_size.ensures.size) in
     subst (λ n. Ran g.D.Disk.led c.args.disk (Sync ∷ Len ∷ Read 0 n ∷ []) true c.inspect_firm.new.disk) size c.in-Ok.ensures.calls
 
 pub returns-in-OtherKey-clause-calls : goal.returns-in-OtherKey-clause-calls
 returns-in-OtherKey-clause-calls g c =
-    let size : length c.split_at_mut-bytes.result.0.now ≡ 18 + 2 ^ c.args.height = omega (arith, c.split_at_mut-bytes.ensures.front_len, c.leaf_count.ensures.count) in
+    let size : length c.split_at_mut-bytes.result.0.now ≡ 18 + 2 ^ c.args.height = omega (arith, c.split_at_mut-bytes.ensures.front_len, c.file_size.ensures.size) in
     subst (λ n. Ran g.D.Disk.led c.args.disk (Sync ∷ Len ∷ Read 0 n ∷ []) true c.inspect_firm.new.disk) size c.in-Ok.ensures.calls
 
 pub returns-in-Unformatted-clause-says : goal.returns-in-Unformatted-clause-says

@@ -2,7 +2,7 @@
 use Rattle.std.proofs.Common.{cond, ◌∷◌, ◌∙◌, subst, sym}
 use Rattle.accept_cache.specs.Recency.{Hit}
 use Rattle.accept_cache.specs.Keys.{pair_of}
-use Rattle.accept_cache.specs.StandsFor.{StandsFor}
+use Rattle.accept_cache.specs.StandsFor.{CacheStandsFor}
 use Rattle.accept_cache.proofs.Laws.{has_fresh_agrees, hit_stands}
 use Rattle.accept_cache.proofs.cache.AcceptCache.hit.Goals as goal
 
@@ -13,5 +13,5 @@ returns-clause-fresh c = λ uses wilds stands.
 pub returns-clause-stands : goal.returns-clause-stands
 returns-clause-stands c = λ uses wilds stands.
     let pair = pair_of c.args.source.now c.args.port in
-    subst (StandsFor (cond c.touch.result (Hit pair ∷ uses) uses) wilds) (sym c.touch.ensures.kept)
+    subst (CacheStandsFor (cond c.touch.result (Hit pair ∷ uses) uses) wilds) (sym c.touch.ensures.kept)
     (hit_stands uses wilds c.args.self.now stands pair c.args.now c.touch.result c.touch.ensures.answer)

@@ -3,7 +3,7 @@ use Rattle.std.proofs.Common.{cond, ◌∷◌, ◌∙◌, subst, sym}
 use Rattle.std.proofs.lemmas.Result.{IfOk-weaker}
 use Rattle.accept_cache.specs.Recency.{Proved}
 use Rattle.accept_cache.specs.Keys.{wildcard_of}
-use Rattle.accept_cache.specs.StandsFor.{StandsFor}
+use Rattle.accept_cache.specs.StandsFor.{CacheStandsFor}
 use Rattle.accept_cache.proofs.Laws.{is_promoted_agrees, promotion_stands}
 use Rattle.accept_cache.proofs.cache.AcceptCache.promote.Goals as goal
 
@@ -17,5 +17,5 @@ pub returns-clause-stands : goal.returns-clause-stands
 returns-clause-stands c = λ uses wilds stands.
     let wildcard = wildcard_of c.args.ad.now c.args.port in
     IfOk-weaker c.keep_wild.result _ _
-    (λ made kept. subst (StandsFor uses (cond made (Proved wildcard c.args.now ∷ wilds) wilds)) (sym kept) (promotion_stands uses wilds c.args.self.now stands wildcard c.args.now made))
+    (λ made kept. subst (CacheStandsFor uses (cond made (Proved wildcard c.args.now ∷ wilds) wilds)) (sym kept) (promotion_stands uses wilds c.args.self.now stands wildcard c.args.now made))
     c.keep_wild.ensures.kept

@@ -5,5 +5,5 @@ use Rattle.aip_core.proofs.directory.Directory.router_found.Goals as goal
 
 pub returns : goal.returns
 returns c =
-    looked_up (λ (router : Router). bytes_eq router.name c.args.name.now) c.args.self.now.routers c.routers.result.now c.router_named.result c.router_at.result
-    c.router_at.ensures c.routers.ensures.routers c.router_named.ensures
+    looked_up (λ (router : Router). bytes_eq router.name c.args.name.now) c.args.self.now.routers c.routers.result.now c.place_of_router.result c.router_at.result
+    c.router_at.ensures c.routers.ensures.routers c.place_of_router.ensures

@@ -1,7 +1,8 @@
 use Rattle.std.proofs.Common.{◌∙◌, ap, List}
 use Rattle.aip_topo.specs.declared.topology.Topology.{Topology}
 use Rattle.aip_rules.specs.declared.Seat.{Seat}
-use Rattle.aip_rules.specs.Nodes.{seats_of, seat_with_address, is_same_address}
+use Rattle.aip_addr.specs.Ids.{is_same_address}
+use Rattle.aip_rules.specs.Nodes.{seats_of, seat_with_address}
 use Rattle.aip_core.proofs.Keys.{looked_up}
 use Rattle.aip_core.proofs.directory.Directory.seat_with_address.Goals as goal
 

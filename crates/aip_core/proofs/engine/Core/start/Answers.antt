@@ -82,7 +82,7 @@ invariant_of-result c =
           ∙ ap (λ (rs : List Router). length rs) c.as_slice-routers.ensures.routers ∙ ap (λ (t : Topology). length t.routers) (sym c.in_ok-new.ensures);
       early = lit< tt;
       few = lit≤ tt;
-      put = subst (λ (fs : List Flight). length fs ≤ 0) (sym c.new-3.ensures) (lit≤ tt);
+      put = subst (λ (fs : List Flight). length fs ≤ 0) (sym c.new-4.ensures) (lit≤ tt);
       boots = subst (λ (ss : List RouterState). All (IsBootedUpTo 0) ss) (sym c.in_ok-checks.ensures)
           (all_same (IsBootedUpTo 0) (length c.as_slice-routers.result.now) fresh (lit≤ tt));
     }
@@ -99,11 +99,11 @@ returns c =
     record {
       topology = c.in_ok-new.ensures;
       links = ap (λ (w : Wired). w.links) c.new-2.ensures ∙ c.in_ok-seats.ensures.links ∙ ap (links_after []) c.as_slice-parts.ensures;
-      flights = c.new-3.ensures;
+      flights = c.new-4.ensures;
       count = c.in_ok-hosts.ensures.count ∙ ap (λ (ss : List Seat). length ss) seats;
       hosts = hosts;
       routers = c.in_ok-checks.ensures ∙ ap (λ (rs : List Router). replicate (length rs) (router_at_start c.args.topology.settings)) c.as_slice-routers.ensures.routers;
-      records = c.new-4.ensures.nothing;
+      records = c.new-3.ensures.nothing;
       ticks = refl;
       inputs = refl;
     }

@@ -23,15 +23,15 @@ invariant_of-core c =
     let few = c.requires.few in
     record {
       sound = c.self.invariant.sound;
-      wired = subst (λ (w : Wired). IsWiringOf c.self.inside.directory w) (sym c.linked.ensures)
+      wired = subst (λ (w : Wired). IsWiringOf c.self.inside.network.directory w) (sym c.linked.ensures)
           (record { domains = c.self.invariant.wired.domains; rows = c.self.invariant.wired.rows; leads = c.self.invariant.wired.leads });
       hosts = c.self.invariant.hosts;
       routers =
-          ap (λ (ss : List RouterState). length ss) c.started-routers.ensures ∙ count_with c.self.inside.directory c.args.input.now c.self.inside.routers.items
+          ap (λ (ss : List RouterState). length ss) c.started-routers.ensures ∙ count_with c.self.inside.network.directory c.args.input.now c.self.inside.routers.items
           ∙ c.self.invariant.routers;
       early = omega arith;
       few = omega arith;
       put = omega (arith, length-append c.self.inside.flights (in_put c.args.reaction.put), in_put_one c.args.reaction.put);
       boots = subst (λ (ss : List RouterState). All (IsBootedUpTo (c.self.inside.inputs + 1)) ss) (sym c.started-routers.ensures)
-          (boots_with c.self.inside.inputs c.self.inside.directory c.args.input.now c.self.inside.routers.items c.self.invariant.boots);
+          (boots_with c.self.inside.inputs c.self.inside.network.directory c.args.input.now c.self.inside.routers.items c.self.invariant.boots);
     }

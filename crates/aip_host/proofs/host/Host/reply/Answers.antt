@@ -2,7 +2,7 @@ use Rattle.std.proofs.Common.{◌≡◌, false, ap, ◌∙◌}
 use Rattle.aip_host.specs.HostState.{HostState, down_of}
 use Rattle.aip_host.specs.Withholding.{held_back}
 use Rattle.aip_host.proofs.Signed.{answer_is, signing_follows}
-use Rattle.aip_host.proofs.host.Host.respond.Goals as goal
+use Rattle.aip_host.proofs.host.Host.reply.Goals as goal
 
 pub returns-in_ok-reaction-in-Some-clause-reaction : goal.returns-in_ok-reaction-in-Some-clause-reaction
 returns-in_ok-reaction-in-Some-clause-reaction c =
