@@ -35,9 +35,13 @@ Owns key id = (slice_index id.bytes 0 ≡ 1) × (take 18 (drop 1 id.bytes) ≡ t
 abbrev pub address_bytes : Address → List ℕ
 address_bytes address = address.ad.bytes ++ address.eid.bytes
 
+-- two ids are the same
+abbrev pub is_same_id : Id → Id → Bool
+is_same_id a b = bytes_eq a.bytes b.bytes
+
 -- two addresses are the same
 abbrev pub is_same_address : Address → Address → Bool
-is_same_address a b = bytes_eq a.ad.bytes b.ad.bytes && bytes_eq a.eid.bytes b.eid.bytes
+is_same_address a b = is_same_id a.ad b.ad && is_same_id a.eid b.eid
 
 -- the address that 40 bytes spell
 abbrev pub address_of : List ℕ → Address

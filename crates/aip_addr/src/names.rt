@@ -29,7 +29,7 @@ impl Model for Name {
 
     ghost view = { λ n. take n.count n.padded };
 
-    ghost invariant = { λ n. (n.count ≤ 16) × (length n.padded ≡ 16) × (n.padded ≡ take n.count n.padded ++ replicate (16 - n.count) 0) };
+    ghost invariant = { λ n. IsName (take n.count n.padded) × (n.count ≤ 16) × (length n.padded ≡ 16) × (n.padded ≡ take n.count n.padded ++ replicate (16 - n.count) 0) };
 
     ghost inverse = { λ xs. record { padded = xs ++ replicate (16 - length xs) 0; count = length xs } };
 }
@@ -48,6 +48,7 @@ impl Name {
     /// The bytes of the name, 1 to 16.
     pub fn bytes(&self) -> &[u8]
         ensures bytes { result.now ≡ self.now }
+        ensures name { IsName self.now }
     {
         &self.padded[..self.count]
     }
@@ -107,7 +108,8 @@ fn has_name_bytes(bytes: &[u8]) -> bool
 }
 
 fn padded_name(bytes: &[u8]) -> Name
-    requires { length bytes.now ≤ 16 }
+    requires short { length bytes.now ≤ 16 }
+    requires name { IsName bytes.now }
     ensures { result ≡ bytes.now }
 {
     let mut padded = [0; 16];

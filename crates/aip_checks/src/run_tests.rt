@@ -80,6 +80,24 @@ fn the_core_of_a_run_comes_back(rt: HostRuntime) -> Result<(), Fail> {
     Ok(())
 }
 
+// The last line moves time alone, so the core of the line before would be seen.
+#[test]
+fn the_core_of_the_last_line_comes_back(rt: HostRuntime) -> Result<(), Fail> {
+    let (status, core, _) = run_in(
+        rt.alloc(),
+        b"send a b 1 -\ntick 1\n",
+        in_pieces(64, 0),
+        in_pieces(4096, 0),
+    )?;
+    assert_eq!(rt; status, Status::Done);
+    let Some(core) = core else {
+        return Err("a core".into());
+    };
+    assert_eq!(rt; core.flights(), 1);
+    assert_eq!(rt; core.now(), 1);
+    Ok(())
+}
+
 #[test]
 fn the_core_comes_back_from_a_refused_line(rt: HostRuntime) -> Result<(), Fail> {
     let (status, core, _) = run_in(

@@ -54,11 +54,6 @@ left_tail [] ys y (suc k) e = absurd cc
 left_tail (x ∷ xs) ys y zero e = cc
 left_tail (x ∷ xs) ys y (suc k) e = left_tail xs ys y k e
 
--- one more of the same
-pub replicate_more : {A : Type 0} (n : ℕ) (x : A) → replicate n x ++ x ∷ [] ≡ replicate (suc n) x
-replicate_more zero x = refl
-replicate_more (suc n) x = ap (λ xs. x ∷ xs) (replicate_more n x)
-
 replicate_at : {A : Type 0} (n k : ℕ) (x y : A) → slice_get (replicate n x) k ≡ Some y → y ≡ x
 replicate_at zero k x y at = absurd cc
 replicate_at (suc n) zero x y at = cc
@@ -81,11 +76,6 @@ pub hosts_count : (routers : List Router) (before parts : List Part) → length 
 hosts_count routers before [] = refl
 hosts_count routers before (Host host ∷ parts) = ap suc (hosts_count routers (Host host ∷ before) parts)
 hosts_count routers before (Link link ∷ parts) = hosts_count routers (Link link ∷ before) parts
-
--- the hosts of one line come before those of the others
-pub hosts_room : (part : Part) (rest : List Part) → length (hosts_on (part ∷ rest)) ≡ length (hosts_on (part ∷ [])) + length (hosts_on rest)
-hosts_room (Host host) rest = omega arith
-hosts_room (Link link) rest = omega arith
 
 -- one host more is new
 pub begun_more : (settings : Settings) (routers : List Router) (seats : List Seat) (lines : List HostPart) (host : HostPart) (rest : List Part) (hosts : List HostState) (seat : Seat) (new : HostState)
@@ -110,15 +100,6 @@ begun_more settings routers seats lines host rest hosts seat new low is fresh be
       let same_line : host ≡ line = cc in
       subst (λ (x : HostState). IsNewHost settings routers s line x) last.1
       (subst (λ (l : HostPart). IsNewHost settings routers s l new) same_line (subst (λ (x : Seat). IsNewHost settings routers x host new) same_seat fresh))
-
--- a link adds no host
-pub begun_same : (settings : Settings) (routers : List Router) (seats : List Seat) (lines : List HostPart) (part : Part) (rest : List Part) (hosts : List HostState)
-    → hosts_on (part ∷ rest) ≡ hosts_on rest → AreBegun settings routers seats lines (part ∷ rest) hosts → AreBegun settings routers seats lines rest hosts
-begun_same settings routers seats lines part rest hosts same begun = record {
-  each = begun.each;
-  left = begun.left ∙ same;
-  room = ap (λ (ls : List HostPart). length hosts + length ls) (sym same) ∙ begun.room;
-}
 
 -- new hosts stand at their seats
 pub new_seated : (settings : Settings) (routers : List Router) (seats : List Seat) (lines : List HostPart) (hosts : List HostState) → length hosts ≡ length seats → length lines ≡ length seats
@@ -184,24 +165,6 @@ starts_at topo kept sound start = record {
       (ap length start.routers ∙ replicate_count (length topo.routers) (router_at_start topo.settings))
       (λ place state at. replicate_at (length topo.routers) place (router_at_start topo.settings) state (sym (ap (λ (ss : List RouterState). slice_get ss place) start.routers) ∙ at));
 }
-
--- the log of a sound topology's hosts has room
-pub has_log : (topo : Topology) → IsSound topo → 1 ≤ topo.settings.log
-has_log topo sound = at_least topo.settings.log _ sound.settings.1.1.1.1.0 where
-  at_least : (value most : ℕ) → (nat_lt value 1 || nat_lt most value) ≡ false → 1 ≤ value
-  at_least value most e = grind (arith, nat_tests)
-
--- the guards of a sound topology's hosts have room
-pub has_filter : (topo : Topology) → IsSound topo → 1 ≤ topo.settings.filter
-has_filter topo sound = at_least topo.settings.filter _ sound.settings.1.1.1.0 where
-  at_least : (value most : ℕ) → (nat_lt value 1 || nat_lt most value) ≡ false → 1 ≤ value
-  at_least value most e = grind (arith, nat_tests)
-
--- for at most 256 key identifiers
-pub few_filter : (topo : Topology) → IsSound topo → topo.settings.filter ≤ 256
-few_filter topo sound = at_most topo.settings.filter 256 sound.settings.1.1.1.0 where
-  at_most : (value most : ℕ) → (nat_lt value 1 || nat_lt most value) ≡ false → value ≤ most
-  at_most value most e = grind (arith, nat_tests)
 
 -- what is so of a thing is so of many of it
 pub all_same : {A : Type 0} (P : A → Type 0) (n : ℕ) (x : A) → P x → All P (replicate n x)

@@ -26,13 +26,6 @@ there_is (x ∷ xs) (suc k) low = there_is xs k (omega arith)
 pub beside : {A B : Type 0} (xs : List A) (ys : List B) (k : ℕ) (x : A) → length ys ≡ length xs → slice_get xs k ≡ Some x → (y : B) × (slice_get ys k ≡ Some y)
 beside xs ys k x same at = let low : k < length xs = slice_get_within xs k x at in there_is ys k (omega arith)
 
-pub none_beside : {A B : Type 0} (xs : List A) (ys : List B) (k : ℕ) → length ys ≡ length xs → slice_get xs k ≡ None → slice_get ys k ≡ None
-none_beside [] [] k same at = refl
-none_beside [] (y ∷ ys) k same at = absurd (omega arith)
-none_beside (x ∷ xs) [] k same at = refl
-none_beside (x ∷ xs) (y ∷ ys) zero same at = absurd cc
-none_beside (x ∷ xs) (y ∷ ys) (suc k) same at = none_beside xs ys k (omega arith) at
-
 -- a host of the rules and what is kept of it, or neither
 abbrev pub HostBoth : Topology → List Entry → Option Seat → Option HostState → Type 0
 HostBoth topo tr (Some seat) (Some host) = HostStandsFor topo tr seat host

@@ -11,7 +11,8 @@ use Rattle.aip_event.specs.declared.event.Reason.{Reason}
 use Rattle.aip_event.specs.declared.event.Reason.TheVariants as reason
 use Rattle.aip_event.specs.declared.input.Input.TheVariants.{Deliver}
 use Rattle.aip_topo.specs.declared.topology.Topology.{Topology}
-use Rattle.accept_cache.specs.Keys.{pair_of, wildcard_of, same_id}
+use Rattle.aip_addr.specs.Ids.{is_same_id, is_same_address}
+use Rattle.accept_cache.specs.Keys.{pair_of, wildcard_of}
 use Rattle.accept_cache.specs.Recency.{Proved}
 use Rattle.accept_cache.specs.Accepted.{PairUses, WildcardUses}
 use Rattle.accept_cache.specs.Kept.{Kept, after_hit, after_hit_wild, after_proved, after_promote, has_fresh, has_fresh_wild}
@@ -31,7 +32,6 @@ use Rattle.aip_rules.specs.declared.Reaction.{Reaction}
 use Rattle.aip_rules.specs.declared.Verdict.{Verdict}
 use Rattle.aip_rules.specs.Accepted.{hit_of_pair, hit_of_wildcard, pair_uses, wildcard_uses}
 use Rattle.aip_rules.specs.State.{now_of, flight_at, frame_in, delivered_frame}
-use Rattle.aip_addr.specs.Ids.{is_same_address}
 use Rattle.aip_rules.specs.Nodes.{neighbour_at, target_at}
 use Rattle.aip_rules.specs.Routes.{port_over}
 use Rattle.aip_rules.specs.Reaction.{dropped, numbered}
@@ -172,7 +172,7 @@ module _ (at : Arrival) (basis : Basis) (n : ℕ) (base : List Entry) (stands : 
 
       judges : (found : Option Neighbour) → Judged (kept_verdict basis at found frame.from)
       judges None = asks key frame (port_over basis.topo basis.links at.place at.self frame.from)
-      judges (Some (neighbour.Host name)) = at_host (not (same_id frame.from.ad at.self.address.ad)) (has_fresh basis.state.cache (pair_of frame.from at.port) basis.now) refl
+      judges (Some (neighbour.Host name)) = at_host (not (is_same_id frame.from.ad at.self.address.ad)) (has_fresh basis.state.cache (pair_of frame.from at.port) basis.now) refl
       judges (Some (neighbour.Link other far marked)) =
           let back = port_over basis.topo basis.links at.place at.self frame.from in
           at_link back (trusts basis.topo basis.records basis.now at.self other marked) (leads_back back at.port)

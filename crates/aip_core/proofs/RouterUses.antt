@@ -37,10 +37,6 @@ has_room topo sound = record {
   wildcache = at_least_one topo.settings.wildcache _ sound.settings.1.1.1.1.1.1.1.0;
 }
 
--- and epochs have a length
-pub has_epochs : (topo : Topology) → IsSound topo → 0 < topo.settings.epoch
-has_epochs topo sound = at_least_one topo.settings.epoch _ sound.settings.1.1.0
-
 -- what any router keeps before any input stands for the empty trace
 pub starts : (topo : Topology) (self : Router) → IsSound topo → RouterStands topo [] self (router_at_start topo.settings)
 starts topo self sound = record {

@@ -104,18 +104,3 @@ lets_nothing tr (Restart node) name other = refl
 lets_nothing tr (Stop host call byte) name other = refl
 lets_nothing tr (Halt host call byte) name other = refl
 lets_nothing tr (Publish bytes) name other = refl
-
--- nor is it a restart of this one
-pub no_restart : (flights : List Flight) (input : Input) (name : List ℕ) → IsUnnamed flights input name → is_restart_of input name ≡ false
-no_restart flights (Restart node) name other = other node refl
-no_restart flights input name other = refl
-
-stays : (b : Bool) (other before : Option Arming) → b ≡ false → cond b other before ≡ before
-stays true other before e = absurd cc
-stays false other before e = refl
-
--- nor a stop of it
-pub no_stop : (flights : List Flight) (input : Input) (name : List ℕ) (before : Option Arming) → IsUnnamed flights input name → stop_after_input input name before ≡ before
-no_stop flights (Stop host call byte) name before other = stays (bytes_eq host name) (Some (record { call = call; byte = byte })) before (other host refl)
-no_stop flights (Restart node) name before other = stays (bytes_eq node name) None before (other node refl)
-no_stop flights input name before other = refl

@@ -5,6 +5,7 @@ use Rattle.aip_core.specs.Machine.{AreSeated}
 use Rattle.aip_core.specs.RouterMachine.{RouterState}
 use Rattle.aip_core.specs.Wiring.{IsWiringOf}
 use Rattle.aip_core.specs.declared.engine.Core.TheInside.{Inside}
+use Rattle.aip_rules.specs.Step.{most_inputs}
 
 -- a router was started anew at most n times
 abbrev pub IsBootedUpTo : ℕ → RouterState → Type 0
@@ -18,6 +19,6 @@ pub record FitTogether (core : Inside) : Type 0 where
   pub hosts : AreSeated core.network.directory core.hosts.items
   pub routers : length core.routers.items ≡ length core.network.directory.routers
   pub early : core.ticks < 2 ^ 48
-  pub few : core.inputs ≤ 65536
+  pub few : core.inputs ≤ most_inputs
   pub put : length core.flights ≤ core.inputs
   pub boots : All (IsBootedUpTo core.inputs) core.routers.items

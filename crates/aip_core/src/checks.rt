@@ -1,7 +1,8 @@
 //! What a router keeps: how often it was started anew, and the sources and domains that it accepted since.
 
 ghost use Rattle.std.specs.Prelude.{◌≡◌, ◌<◌, ◌+◌, ◌^◌, ◌&&◌, not, IfOk};
-ghost use Rattle.accept_cache.specs.Keys.{same_id, pair_of, wildcard_of};
+ghost use Rattle.aip_addr.specs.Ids.{is_same_id};
+ghost use Rattle.accept_cache.specs.Keys.{pair_of, wildcard_of};
 ghost use Rattle.accept_cache.specs.Kept.{HasRoom, has_fresh, has_fresh_wild, is_promoted, after_proved, after_promote};
 ghost use Rattle.first_hop.specs.Verdict.{host_verdict};
 ghost use Rattle.border_check.specs.Verdict.{port_verdict, leads_back};
@@ -75,7 +76,7 @@ impl Checks {
     /// The verdict on a frame from the source at a host's port, for a router of the domain `ad`. A source that is proved
     /// there is hit.
     pub fn at_host(&mut self, ad: &Id, source: &Address, port: u16, now: u64) -> HostVerdict
-        ensures verdict { result ≡ host_verdict (not (same_id source.now.ad ad.now)) (has_fresh self.old.cache (pair_of source.now port) now) }
+        ensures verdict { result ≡ host_verdict (not (is_same_id source.now.ad ad.now)) (has_fresh self.old.cache (pair_of source.now port) now) }
         ensures kept { self.new ≡ after_verdict self.old source.now port (of_host port result) }
         ensures boot { self.new.boot ≡ self.old.boot }
     {

@@ -10,7 +10,7 @@ ghost use Rattle.aip_topo.specs.Sound.{IsSound};
 ghost use Rattle.aip_rules.specs.State.{now_of, flight_count, ticks_of};
 ghost use Rattle.aip_rules.specs.Routes.{domains_of_routers};
 ghost use Rattle.aip_rules.specs.Reaction.{numbered};
-ghost use Rattle.aip_rules.specs.Step.{injected, ticked};
+ghost use Rattle.aip_rules.specs.Step.{injected, ticked, most_inputs};
 ghost use Rattle.aip_rules.specs.Laws.{PutAtMostOne};
 ghost use Rattle.aip_core.specs.Machine.{AreSeated, at_host_or, host_of, host_outcome, is_at_host, kept_outcome, kept_relinked, unless_hindered};
 ghost use Rattle.aip_core.specs.Moves.{Does, GoesToPort, LinkIsThere, Moved, IsKeptStep, host_named_by, host_touched, router_touched, kept_after};
@@ -326,7 +326,7 @@ impl Core {
         reaction: Reaction,
     ) -> Result<(Core, Events), AllocError>
         requires early { self.ticks + ticks_of input.now < 2 ^ 48 }
-        requires few { self.inputs < 65536 }
+        requires few { self.inputs < most_inputs }
         requires link { LinkIsThere (length self.links) input.now }
         ensures core { IfOk result (λ taken. taken.0 ≡ kept_after self input.now reaction) }
         ensures events { IfOk result (λ taken. taken.1 ≡ numbered (length self.flights) reaction) }

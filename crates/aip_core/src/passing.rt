@@ -1,7 +1,8 @@
 //! How a router passes a frame on: open, or by its verdict on the frame's source.
 
 ghost use Rattle.std.specs.Prelude.{◌≡◌, ◌<◌, ◌^◌, not, length, IsSome, IfSome, IfOk, OnOk, Some};
-ghost use Rattle.accept_cache.specs.Keys.{pair_of, same_id};
+ghost use Rattle.aip_addr.specs.Ids.{is_same_id};
+ghost use Rattle.accept_cache.specs.Keys.{pair_of};
 ghost use Rattle.accept_cache.specs.Kept.{has_fresh};
 ghost use Rattle.first_hop.specs.Verdict.{host_verdict};
 ghost use Rattle.aip_frame.specs.Frame.{frame_bytes, frame_of};
@@ -90,7 +91,7 @@ fn of_border(back: Option<u16>, verdict: PortVerdict) -> Verdict
 fn verdict_at_host(checks: &mut Checks, at: &Arrival, source: &Address) -> Verdict
     requires low { at.now.port < 2 ^ 16 }
     ensures verdict { result ≡ of_host at.now.port
-        (host_verdict (not (same_id source.now.ad at.now.own.address.ad)) (has_fresh checks.old.cache (pair_of source.now at.now.port) at.now.time)) }
+        (host_verdict (not (is_same_id source.now.ad at.now.own.address.ad)) (has_fresh checks.old.cache (pair_of source.now at.now.port) at.now.time)) }
     ensures after { checks.new ≡ after_verdict checks.old source.now at.now.port result }
     ensures boot { checks.new.boot ≡ checks.old.boot }
 {

@@ -159,8 +159,8 @@ fn take_in(
     pass(alloc, network, checks, at, bytes)
 }
 
-/// What happens where bytes arrive at a port of the router at a place at a time, if there is one, and what it keeps then,
-/// which is `checks` before. The only error is want of memory; what the router keeps is of no use after it.
+/// What happens where bytes arrive at a port of the router at a place at a time, if there is one; `checks` is what the router
+/// keeps, before and after. The only error is want of memory; what the router keeps is of no use after it.
 pub fn arrive(
     alloc: Global,
     network: &mut Network,

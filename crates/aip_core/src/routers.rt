@@ -3,6 +3,7 @@
 ghost use Rattle.std.specs.Prelude.{◌≡◌, ◌<◌, ℕ, List, length, slice_get, replicate, All, Some, IfSome, IfOk, OnOk};
 ghost use Rattle.accept_cache.specs.Kept.{HasRoom};
 ghost use Rattle.aip_rules.specs.Accepted.{limits_of};
+ghost use Rattle.aip_rules.specs.Step.{most_inputs};
 ghost use Rattle.aip_core.specs.Moves.{MovesAt, anew_at, anew_if, routers_with};
 ghost use Rattle.aip_core.specs.Rooms.{IsBootedUpTo};
 ghost use Rattle.aip_core.specs.RouterMachine.{RouterState, basis_of, kept_at_place, after_place, router_at_start};
@@ -70,7 +71,7 @@ pub fn arrive_at(
 // Starts the router at a place anew.
 fn start_at(routers: &mut Vec<Checks>, place: u16)
     requires there { place < length routers.old.items }
-    requires boots { All (IsBootedUpTo 65536) routers.old.items }
+    requires boots { All (IsBootedUpTo most_inputs) routers.old.items }
     ensures { routers.new.items ≡ anew_at routers.old.items place }
 {
     routers[place as usize].restart();
@@ -93,7 +94,7 @@ fn started_by(directory: &Directory, input: &Input) -> Option<u16>
 /// What the routers keep once an input started one of them anew, if it does.
 pub fn started(directory: &Directory, routers: Vec<Checks>, input: &Input) -> Vec<Checks>
     requires count { length routers.items ≡ length directory.now.routers }
-    requires boots { All (IsBootedUpTo 65536) routers.items }
+    requires boots { All (IsBootedUpTo most_inputs) routers.items }
     ensures { result.items ≡ routers_with directory.now input.now routers.items }
 {
     let mut routers = routers;

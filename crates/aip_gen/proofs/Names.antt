@@ -8,10 +8,6 @@ use Rattle.aip_addr.specs.Naming.{IsName, is_letter, is_name_byte}
 digit_byte : (k : ℕ) → k < 10 → is_name_byte (48 + k) ≡ true
 digit_byte k small = grind arith
 
--- a letter may stand in a name
-letter_byte : (letter : ℕ) → is_letter letter ≡ true → is_name_byte letter ≡ true
-letter_byte letter first = rw first refl
-
 one_digit : (letter d : ℕ) → is_letter letter ≡ true → is_name_byte d ≡ true → IsName (letter ∷ d ∷ [])
 one_digit letter d first digit = grind arith
 

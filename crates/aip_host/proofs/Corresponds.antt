@@ -83,10 +83,6 @@ module _ (topo : Topology) (tr : List Entry) (at : Seat) (kept : HostState) (sta
       let shut = same_shut topo tr at kept stands in
       rw (stands.guarded, stands.seat, shut) refl
 
--- a plain host that starts anew says nothing
-pub says_nothing : (topo : Topology) (tr : List Entry) (at : Seat) → is_guarded topo.parts at.name ≡ false → back_up (standing topo tr at) ≡ nothing
-says_nothing topo tr at plain = rw plain refl
-
 -- ---- at first
 
 -- a new host stands for the trace of no inputs

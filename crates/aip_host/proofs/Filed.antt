@@ -19,7 +19,7 @@ use Rattle.shutoff_filter.specs.Opened.{fresh_is_filter, fresh_has_none, length-
 use Rattle.shutoff_filter.specs.Stops.{served_format, served_opening, restarted_is_quiet}
 use Rattle.aip_rules.specs.declared.Arming.{Arming}
 use Rattle.aip_host.specs.Guarding.{GuardState, IsFileOf, IsHalting, Keeps, KeepsWhile}
-use Rattle.aip_host.specs.Guarded.{IsAtRest}
+use Rattle.aip_host.specs.Guarded.{IsFilterAtRest}
 
 -- what is told of a disk has these bytes
 pub told_is : (file other : List ℕ) → ◌≡◌ {A = Option (List ℕ)} (Some file) (Some other) → file ≡ other
@@ -42,7 +42,7 @@ format_serves room old (Failed disk) is says ran =
 pub format_rests : (room : ℕ) (old new : DiskState) → room < 2 ^ 16 → old ≡ new_disk (file_size room) []
     → ForSome (told_of old) (λ file. Ran Leads old (format_calls room file) true new)
     → told_of new ≡ option_map (formatted room) (told_of old)
-    → IsAtRest room [] new
+    → IsFilterAtRest room [] new
 format_rests room old new small is ran told =
     let ends = served_format room new true (subst (λ (d : DiskState). Ran Leads d (format_calls room (content_of d.base d.past)) true new) is (ran (content_of old.base old.past) refl)) in
     let file : content_of new.base new.past ≡ formatted room [] = told_is _ _ (told ∙ ap (λ (d : DiskState). option_map (formatted room) (told_of d)) is) in
@@ -53,7 +53,7 @@ format_rests room old new small is ran told =
     }
 
 -- a guard that is up, on a disk that is at rest
-pub rest_up : (room : ℕ) (entries : List ShutOffEntry) (halt : Option Arming) (disk : DiskState) → IsAtRest room entries disk → IsHalting halt
+pub rest_up : (room : ℕ) (entries : List ShutOffEntry) (halt : Option Arming) (disk : DiskState) → IsFilterAtRest room entries disk → IsHalting halt
     → Keeps (record { room = room; entries = entries; halt = halt; is_down = false; disk = disk })
 rest_up room entries halt disk rest halting = record {
   holds = rest.holds;
@@ -65,27 +65,27 @@ rest_up room entries halt disk rest halting = record {
 }
 
 -- the entries of a filter that was opened are those of its file
-pub opened_entries : (room : ℕ) (entries : List ShutOffEntry) (slots : List Slot) (disk : DiskState) → IsAtRest room entries disk → length slots ≡ room + 1
+pub opened_entries : (room : ℕ) (entries : List ShutOffEntry) (slots : List Slot) (disk : DiskState) → IsFilterAtRest room entries disk → length slots ≡ room + 1
     → IsFilterOf room slots (content_of disk.base disk.past) → entries_of slots ≡ entries
 opened_entries room entries slots disk rest whole is = sym (entries_same room slots (content_of disk.base disk.past) whole is) ∙ rest.file.same
 
 -- a guard that was opened on a disk at rest keeps its entries there
-pub is_opened : (room same : ℕ) (entries others : List ShutOffEntry) (disk new : DiskState) (count : ℕ) → IsAtRest room entries disk → same ≡ room → others ≡ entries
+pub is_opened : (room same : ℕ) (entries others : List ShutOffEntry) (disk new : DiskState) (count : ℕ) → IsFilterAtRest room entries disk → same ≡ room → others ≡ entries
     → Ran Leads disk (Sync ∷ Len ∷ Read 0 count ∷ []) true new
     → Keeps (record { room = same; entries = others; halt = None; is_down = false; disk = new })
 is_opened room same entries others disk new count rest same_room same_entries ran =
     let Up : ℕ → List ShutOffEntry → DiskState → Type 0 = λ r es d. Keeps (record { room = r; entries = es; halt = None; is_down = false; disk = d }) in
     let ends = served_opening disk new count true rest.quiet ran in
-    let again : IsAtRest room entries (record disk { calls = risen (risen (risen disk.calls)) })
+    let again : IsFilterAtRest room entries (record disk { calls = risen (risen (risen disk.calls)) })
     = record { holds = rest.holds; quiet = record { unlisted = rest.quiet.unlisted; unarmed = rest.quiet.unarmed; still = rest.quiet.still }; file = rest.file } in
     let up : Up room entries (record disk { calls = risen (risen (risen disk.calls)) }) = rest_up room entries None _ again tt in
     subst (λ r. Up r others new) (sym same_room) (subst (λ es. Up room es new) (sym same_entries) (subst (Up room entries) (sym ends.1) up))
 
 -- whatever stood before, the disk is at rest after a restart
-pub rest_after : (kept : GuardState) → Keeps kept → IsAtRest kept.room kept.entries (restarted kept.disk)
+pub rest_after : (kept : GuardState) → Keeps kept → IsFilterAtRest kept.room kept.entries (restarted kept.disk)
 rest_after kept keeps = by_case kept.is_down keeps.standing
   where
-    by_case : (down : Bool) → KeepsWhile down kept → IsAtRest kept.room kept.entries (restarted kept.disk)
+    by_case : (down : Bool) → KeepsWhile down kept → IsFilterAtRest kept.room kept.entries (restarted kept.disk)
     by_case false up =
         let base : (restarted kept.disk).base ≡ content_of kept.disk.base kept.disk.past = ap (λ s. left_by s kept.disk.base kept.disk.past) up.quiet.unarmed in
         record {
@@ -96,6 +96,6 @@ rest_after kept keeps = by_case kept.is_down keeps.standing
     by_case true down = record { holds = keeps.holds; quiet = down.quiet; file = down.left }
 
 -- the same in the words of the calls that are made
-pub rest_woken : (kept : GuardState) (room : ℕ) (disk new : DiskState) → Keeps kept → room ≡ kept.room → disk ≡ kept.disk → new ≡ restarted disk → IsAtRest room kept.entries new
+pub rest_woken : (kept : GuardState) (room : ℕ) (disk new : DiskState) → Keeps kept → room ≡ kept.room → disk ≡ kept.disk → new ≡ restarted disk → IsFilterAtRest room kept.entries new
 rest_woken kept room disk new keeps same_room same_disk is =
-    subst (λ r. IsAtRest r kept.entries new) (sym same_room) (subst (IsAtRest kept.room kept.entries) (sym (is ∙ ap restarted same_disk)) (rest_after kept keeps))
+    subst (λ r. IsFilterAtRest r kept.entries new) (sym same_room) (subst (IsFilterAtRest kept.room kept.entries) (sym (is ∙ ap restarted same_disk)) (rest_after kept keeps))

@@ -337,27 +337,3 @@ restarts topo tr at kept after node number stands named anew disks =
     none false = tt
 
 -- ---- one host acts at most
-
--- names are the same in either order
-pub flipped : (name other : List ℕ) → bytes_eq name other ≡ true → bytes_eq other name ≡ true
-flipped name other is = (bytes_eq-Decides other name).1 (sym ((bytes_eq-Decides name other).0 is))
-
-other_name : (host name other : List ℕ) → bytes_eq host name ≡ true → bytes_eq name other ≡ false → bytes_eq host other ≡ false
-other_name host name other is differs = ap (λ n. bytes_eq n other) ((bytes_eq-Decides host name).0 is) ∙ differs
-
-other_target : (to : Target) (name other : List ℕ) → reaches_host (Some (record { target = to; bytes = [] })) name ≡ true → bytes_eq name other ≡ false
-    → reaches_host (Some (record { target = to; bytes = [] })) other ≡ false
-other_target (target.Host host) name other is differs = other_name host name other is differs
-other_target (target.Port router port) name other is differs = absurd cc
-
-other_reached : (flight : Option Flight) (name other : List ℕ) → reaches_host flight name ≡ true → bytes_eq name other ≡ false → reaches_host flight other ≡ false
-other_reached None name other is differs = refl
-other_reached (Some flight) name other is differs = other_target flight.target name other is differs
-
--- an input that lets one host act lets no other act
-pub one_acts : (tr : List Entry) (input : Input) (name other : List ℕ) → lets_act tr input name ≡ true → bytes_eq name other ≡ false → lets_act tr input other ≡ false
-one_acts tr (Send host node packet body) name other is differs = other_name host name other is differs
-one_acts tr (Raw host bytes) name other is differs = other_name host name other is differs
-one_acts tr (Shutoff host flight ttl) name other is differs = other_name host name other is differs
-one_acts tr (Deliver flight) name other is differs = other_reached (delivered_by tr (Deliver flight)) name other is differs
-one_acts tr _ name other is differs = refl

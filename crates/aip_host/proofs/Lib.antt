@@ -11,4 +11,3 @@ pub mod Grown
 pub mod Corresponds
 pub mod Inputs
 mod Standing
-pub mod Elsewhere

@@ -29,7 +29,7 @@ use Rattle.aip_rules.specs.Reaction.{dropped, happens}
 use Rattle.aip_rules.specs.Host as rules
 use Rattle.aip_host.specs.declared.guard.Obeying.{Obeying}
 use Rattle.aip_host.specs.declared.guard.Obeying.TheVariants.{Obeyed, Halted}
-use Rattle.aip_host.specs.Guarding.{GuardState, is_told, written_with, entries_with, obeying_of, halt_after, down_after, entries_after}
+use Rattle.aip_host.specs.Guarding.{GuardState, is_told, written_with, entries_with, obeying_of, halt_after, down_after_order, entries_after}
 use Rattle.aip_host.specs.HostState.{HostState, next_in, stop_in, halt_in, shut_in, down_in, fell_in, down_of, standing_of}
 use Rattle.aip_host.specs.After.{Follows, halt_past, down_past, told_past}
 use Rattle.aip_host.specs.Withholding.{GuardFollows, LeavesUnordered, is_order, order_event, verdict_event, verdict_of}
@@ -75,16 +75,6 @@ verdict_says kept log now until f is =
     let lasts : now < until = grind (arith, nat_tests, late, ends) in
     let room : others_in_force now (key_id_of f.from.eid) kept.entries < kept.room = grind (arith, nat_tests, full) in
     (lasts, room)
-
--- the same in the words of the calls that are made
-pub obeyed_says : (kept : GuardState) (log : Log) (now until : ℕ) (o : Option Frame) (from : Address) (to : KeyId) → IsSome o
-    → IfSome o (λ f. heard.Obeyed until ≡ verdict_of kept log now f) → IfSome o (λ f. from ≡ f.from) → to ≡ key_id_of from.eid
-    → (now < until) × (others_in_force now to kept.entries < kept.room)
-obeyed_says kept log now until None from to some judged same_from same_to = absurd cc
-obeyed_says kept log now until (Some f) from to some judged same_from same_to =
-    let says = verdict_says kept log now until f (sym judged) in
-    let same : key_id_of f.from.eid ≡ to = sym (same_to ∙ ap (λ (a : Address). key_id_of a.eid) same_from) in
-    (says.0, subst (λ k. others_in_force now k kept.entries < kept.room) same says.1)
 
 -- a refusal comes to an event with its number
 pub refused_event : (name : List ℕ) (kept : GuardState) (to : KeyId) (verdict : Heard) → ((until : ℕ) → verdict ≡ heard.Obeyed until → ⊥) → event.Heard name (refusal_number verdict) ≡ verdict_event name kept to verdict
@@ -168,7 +158,7 @@ module _ (now : ℕ) (name : List ℕ) (to : KeyId) (until : ℕ) (entries : Lis
   )
 
 pub order_follows : (now : ℕ) (name : List ℕ) (old new : GuardState) (to : KeyId) (until : ℕ) (obeying : Obeying) (reaction : Reaction) → old.is_down ≡ false → obeying ≡ obeying_of old to until
-    → new.halt ≡ halt_after old to until → new.is_down ≡ down_after old to until → SameInForce now (entries_after old to until) new.entries
+    → new.halt ≡ halt_after old to until → new.is_down ≡ down_after_order old to until → SameInForce now (entries_after old to until) new.entries
     → reaction ≡ happens (order_event name to until obeying)
     → GuardFollows now name old reaction new
 order_follows now name old new to until obeying reaction up ends halt down same comes =

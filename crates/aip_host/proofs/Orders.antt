@@ -24,20 +24,20 @@ use Rattle.aip_rules.specs.Standing.{left_entry}
 use Rattle.aip_host.specs.declared.guard.Obeying.{Obeying}
 use Rattle.aip_host.specs.declared.guard.Obeying.TheVariants.{Obeyed}
 use Rattle.aip_host.specs.Guarding.{GuardState, IsHalting, Keeps, is_told, written_with, entries_with, entries_after}
-use Rattle.aip_host.specs.Guarded.{HasPlace, IsDone, IsObeying, IsWritten}
+use Rattle.aip_host.specs.Guarded.{HasPlaceForEntry, IsOrderDone, IsObeying, IsWritten}
 use Rattle.aip_host.proofs.Filed.{rest_up, told_is}
 
 -- ---- a slot for the next entry
 
 -- a disk that has the place has it once it was made
-placed : (disk : DiskState) → HasPlace disk → reserved disk 6 29 ≡ disk
+placed : (disk : DiskState) → HasPlaceForEntry disk → reserved disk 6 29 ≡ disk
 placed disk place =
     let entries : max disk.entry_place (length disk.past + 6) ≡ disk.entry_place = omega (arith, place.entries) in
     let bytes : max disk.byte_place (kept_bytes disk.past + 29) ≡ disk.byte_place = omega (arith, place.bytes) in
     ap (λ n. record disk { entry_place = n; byte_place = max disk.byte_place (kept_bytes disk.past + 29) }) entries ∙ ap (λ n. record disk { byte_place = n }) bytes
 
 -- closing a slot is served on a quiet disk that has the place, and then an entry can be written
-pub ready_serves : (now room : ℕ) (slots : List Slot) (disk new : DiskState) (served : Bool) → IsQuiet disk → file_size room ≤ disk.room → HasPlace disk → length slots ≡ room + 1
+pub ready_serves : (now room : ℕ) (slots : List Slot) (disk new : DiskState) (served : Bool) → IsQuiet disk → file_size room ≤ disk.room → HasPlaceForEntry disk → length slots ≡ room + 1
     → Ran Leads disk (closing_calls slots (spare_in now slots)) served new
     → (served ≡ true) × IsReadyToKeep room new × (new.room ≡ disk.room)
 ready_serves now room slots disk new served quiet holds place whole ran =
@@ -120,7 +120,7 @@ same_with now (Some arming) entry old new alike = by_case (left_entry arming.cal
 pub done_written : (now : ℕ) (kept readied after : GuardState) (halt : Option Arming) (to : KeyId) (until : ℕ) → kept.halt ≡ halt → is_told kept to until ≡ false
     → SameInForce now kept.entries readied.entries → readied.room ≡ kept.room → IsWritten now readied (entries_with halt (record { to = to; until = until }) readied.entries) after
     → after.halt ≡ None → after.is_down ≡ is_some halt
-    → IsDone now kept to until (written_with halt) after
+    → IsOrderDone now kept to until (written_with halt) after
 done_written now kept readied after halt to until is untold alike same_room wrote none down =
     let entry : ShutOffEntry = record { to = to; until = until } in
     let old : entries_after kept to until ≡ entries_with halt entry kept.entries

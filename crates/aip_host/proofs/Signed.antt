@@ -10,7 +10,7 @@ use Rattle.lmots_core.specs.declared.parameters.Width.{Width}
 use Rattle.lmots_core.specs.declared.parameters.Width.TheVariants.{W1, W2, W4, W8}
 use Rattle.lms_core.specs.declared.height.Height.{Height}
 use Rattle.lms_core.specs.declared.height.Height.TheVariants.{H5, H10}
-use Rattle.lms_core.specs.Parameters.{signature_len_of}
+use Rattle.lms_core.specs.Parameters.{signature_len_of, most_signature}
 use Rattle.lms_core.specs.Tree.{Key, public_key_of, signature_of}
 use Rattle.lms_core.specs.Verify.{IsValidSignature, is_valid_signature, is_valid_under, width_in, height_in}
 use Rattle.aip_addr.specs.declared.ids.Address.{Address}
@@ -49,7 +49,7 @@ use Rattle.aip_host.proofs.Withheld.{withheld_is}
 -- ---- how long a signature is
 
 -- a signature of any parameter sets is short
-short_len : (width : Width) (height : Height) → signature_len_of width height ≤ 8844
+short_len : (width : Width) (height : Height) → signature_len_of width height ≤ most_signature
 short_len W1 H5 = omega arith
 short_len W1 H10 = omega arith
 short_len W2 H5 = omega arith
@@ -60,7 +60,7 @@ short_len W8 H5 = omega arith
 short_len W8 H10 = omega arith
 
 short_under : (width : Option Width) (height : Option Height) (key message signature : List ℕ)
-    → is_valid_under width height key message signature ≡ true → length signature ≤ 8844
+    → is_valid_under width height key message signature ≡ true → length signature ≤ most_signature
 short_under None height key message signature is = absurd cc
 short_under (Some width) None key message signature is = absurd cc
 short_under (Some width) (Some height) key message signature is =
@@ -68,7 +68,7 @@ short_under (Some width) (Some height) key message signature is =
     omega (arith, short_len width height, len)
 
 -- a valid signature is short
-pub valid_short : (key message signature : List ℕ) → IsValidSignature key message signature → length signature ≤ 8844
+pub valid_short : (key message signature : List ℕ) → IsValidSignature key message signature → length signature ≤ most_signature
 unfolding is_valid_signature
 valid_short key message signature is = short_under (width_in key) (height_in key) key message signature (grind (arith, nat_tests))
 
@@ -231,7 +231,7 @@ module _ (seat : Seat) (towards : Target) (guard : Option GuardState) (now : ℕ
   abbrev signs : Option KeyId → Reaction
   signs to = held_for seat.name (happens_and_puts (Signs seat.name kept.next) towards (frame_bytes (frame (signature_of kept.key kept.next text)))) to
 
-  next_case : (dry : Bool) (stop : Option Arming) → (if dry then kept.next else key.next_past kept.next stop) ≡ next_past (comes dry stop).events seat.name kept.next
+  next_case : (dry : Bool) (stop : Option Arming) → (if dry then kept.next else key.next_once_stopped kept.next stop) ≡ next_past (comes dry stop).events seat.name kept.next
   next_case true stop = sym (zero-max kept.next)
   next_case false None = signing (withheld_by guard now (frame_of (frame_bytes (frame (signature_of kept.key kept.next text)))))
     where
@@ -293,14 +293,6 @@ module _ (seat : Seat) (towards : Target) (guard : Option GuardState) (now : ℕ
 pub neither : (a b : Bool) → (a || b) ≡ false → (a ≡ false) × (b ≡ false)
 neither true b up = absurd cc
 neither false b up = (refl, up)
-
--- the key of a host that is up is up
-pub key_up : (inside host : HostState) (kept : KeyState) → inside ≡ host → inside.key ≡ Some kept → down_of host ≡ false → kept.is_down ≡ false
-key_up inside host kept same is up = ap down_in (sym is) ∙ (neither (down_in inside.key) (fell_in inside.guard) (ap down_of same ∙ up)).0
-
--- and so is its guard
-pub guard_up : (inside host : HostState) → inside ≡ host → down_of host ≡ false → fell_in inside.guard ≡ false
-guard_up inside host same up = (neither (down_in inside.key) (fell_in inside.guard) (ap down_of same ∙ up)).1
 
 -- after a signing the host stands as tells what its guard leaves of what came of it
 pub signing_follows : (now : ℕ) (old : HostState) (kept after : KeyState) (log : Log) (reaction : Reaction) (frame : List ℕ → Frame) (text : List ℕ) → old.key ≡ Some kept → down_of old ≡ false

@@ -22,7 +22,7 @@ use Rattle.aip_rules.specs.Step.{has_key, after_step}
 use Rattle.aip_host.specs.HostState.{HostState, key_in, standing_of}
 use Rattle.aip_host.specs.After.{Follows, IsNew, IsRestarted, halted_in, stopped_in}
 use Rattle.aip_host.specs.StandsFor.{HostStandsFor, DisksServe}
-use Rattle.aip_host.specs.StandsOn.{StandsOn, LetsAct, ArmsStop, ArmsHalt, StartsAnew, IsSeated}
+use Rattle.aip_host.specs.StandsOn.{StandsOn, AsksItToAct, ArmsStop, ArmsHalt, StartsAnew, IsSeated}
 use Rattle.aip_host.proofs.Signed.{same_name}
 use Rattle.aip_host.proofs.Obeys.{if_ok, if_both}
 use Rattle.aip_host.proofs.Corresponds.{arrives_as, puts_as, shuts_as, restarts_as, starts, follows}
@@ -35,7 +35,7 @@ abbrev IsSame : HostState → (Standing → Reaction) → Type 0
 IsSame old rule = (topo : Topology) (tr : List Entry) (at : Seat) → HostStandsFor topo tr at old → rule (standing_of old (now_of tr)) ≡ rule (standing topo tr at)
 
 acts : (now : ℕ) (old new : HostState) (rule : Standing → Reaction) (reaction : Reaction)
-    → IsSame old rule → reaction ≡ rule (standing_of old now) → Follows now old reaction new → DisksServe new → StandsOn now old LetsAct rule reaction new
+    → IsSame old rule → reaction ≡ rule (standing_of old now) → Follows now old reaction new → DisksServe new → StandsOn now old AsksItToAct rule reaction new
 acts now old new rule reaction same is moved disks topo tr at time stands = record {
   ruled = is ∙ ap (λ n. rule (standing_of old n)) (sym time) ∙ same topo tr at stands;
   stands = λ input acting. follows topo tr at old new input (flight_count tr) reaction stands (subst (λ n. Follows n old reaction new) (sym time) moved) disks acting;
@@ -43,13 +43,13 @@ acts now old new rule reaction same is moved disks topo tr at time stands = reco
 
 module _ {E : Type 0} (result : Result Reaction E) (now : ℕ) (old new : HostState) where
   acts_so : (rule : Standing → Reaction) → IsSame old rule → IfOk result (λ reaction. reaction ≡ rule (standing_of old now)) → IfOk result (λ reaction. Follows now old reaction new) → DisksServe new
-      → IfOk result (λ reaction. StandsOn now old LetsAct rule reaction new)
+      → IfOk result (λ reaction. StandsOn now old AsksItToAct rule reaction new)
   acts_so rule same is moved disks = if_both result _ _ _ is moved (λ reaction says goes. acts now old new rule reaction same says goes disks)
 
   -- it sends a packet
   pub sends_on : (to : Address) (packet : ℕ) (body : List ℕ)
       → IfOk result (λ reaction. reaction ≡ put_by (standing_of old now) (frame_bytes (sent_frame to old.seat.address packet body))) → IfOk result (λ reaction. Follows now old reaction new) → DisksServe new
-      → IfOk result (λ reaction. StandsOn now old LetsAct (λ s. put_by s (frame_bytes (sent_frame to s.seat.address packet body))) reaction new)
+      → IfOk result (λ reaction. StandsOn now old AsksItToAct (λ s. put_by s (frame_bytes (sent_frame to s.seat.address packet body))) reaction new)
   sends_on to packet body = acts_so (λ s. put_by s (bytes s.seat)) (λ topo tr at stands. puts_as topo tr at old stands (bytes old.seat) ∙ ap (λ seat. put_by (standing topo tr at) (bytes seat)) stands.seat)
     where
       bytes : Seat → List ℕ
@@ -57,17 +57,17 @@ module _ {E : Type 0} (result : Result Reaction E) (now : ℕ) (old new : HostSt
 
   -- it puts bytes
   pub puts_on : (bytes : List ℕ) → IfOk result (λ reaction. reaction ≡ put_by (standing_of old now) bytes) → IfOk result (λ reaction. Follows now old reaction new) → DisksServe new
-      → IfOk result (λ reaction. StandsOn now old LetsAct (λ s. put_by s bytes) reaction new)
+      → IfOk result (λ reaction. StandsOn now old AsksItToAct (λ s. put_by s bytes) reaction new)
   puts_on bytes = acts_so (λ s. put_by s bytes) (λ topo tr at stands. puts_as topo tr at old stands bytes)
 
   -- bytes arrive at it
   pub meets_on : (bytes : List ℕ) → IfOk result (λ reaction. reaction ≡ at_host (standing_of old now) bytes) → IfOk result (λ reaction. Follows now old reaction new) → DisksServe new
-      → IfOk result (λ reaction. StandsOn now old LetsAct (λ s. at_host s bytes) reaction new)
+      → IfOk result (λ reaction. StandsOn now old AsksItToAct (λ s. at_host s bytes) reaction new)
   meets_on bytes = acts_so (λ s. at_host s bytes) (λ topo tr at stands. arrives_as topo tr at old stands bytes)
 
   -- it signs a shut-off
   pub shuts_on : (key : Key) (frame : Frame) (ttl : ℕ) → IfOk result (λ reaction. reaction ≡ shut_by (standing_of old now) key frame ttl) → IfOk result (λ reaction. Follows now old reaction new) → DisksServe new
-      → IfOk result (λ reaction. StandsOn now old LetsAct (λ s. shut_by s key frame ttl) reaction new)
+      → IfOk result (λ reaction. StandsOn now old AsksItToAct (λ s. shut_by s key frame ttl) reaction new)
   shuts_on key frame ttl = acts_so (λ s. shut_by s key frame ttl) (λ topo tr at stands. shuts_as topo tr at old stands key frame ttl)
 
   risen : IsRestarted old new → DisksServe new → (reaction : Reaction) → reaction ≡ back_up (standing_of old now) → StandsOn now old StartsAnew back_up reaction new
@@ -86,28 +86,6 @@ module _ {E : Type 0} (result : Result Reaction E) (now : ℕ) (old new : HostSt
   rises_on is anew disks = if_ok result _ _ is (risen anew disks)
 
 -- ---- where a stop or a halt is armed
-
--- a stop of its signings
-pub stops_on : (old new : HostState) (call byte : ℕ) → has_key (key_in old.key) ≡ true → new ≡ record old { key = stopped_in old.key (record { call = call; byte = byte }) } → DisksServe new
-    → (time : ℕ) → StandsOn time old (ArmsStop call byte) (λ s. nothing) nothing new
-stops_on old new call byte some is disks now topo tr at time stands = record {
-  ruled = refl;
-  stands = λ input asked.
-      subst (λ (i : Input). HostStandsFor topo (after_step tr i []) at new) (sym asked)
-      (subst (λ (h : HostState). HostStandsFor topo (after_step tr (Stop at.name call byte) []) at h) (sym is)
-      (stops topo tr at old at.name call byte stands (same_name at.name) some (subst DisksServe is disks)));
-}
-
--- a halt of its guard
-pub halts_on : (old new : HostState) (call byte : ℕ) → new ≡ record old { guard = halted_in old.guard (record { call = call; byte = byte }) } → DisksServe new
-    → (time : ℕ) → StandsOn time old (ArmsHalt call byte) (λ s. nothing) nothing new
-halts_on old new call byte is disks now topo tr at time stands = record {
-  ruled = refl;
-  stands = λ input asked.
-      subst (λ (i : Input). HostStandsFor topo (after_step tr i []) at new) (sym asked)
-      (subst (λ (h : HostState). HostStandsFor topo (after_step tr (Halt at.name call byte) []) at h) (sym is)
-      (halts topo tr at old at.name call byte stands (same_name at.name) (subst DisksServe is disks)));
-}
 
 -- ---- at first
 

@@ -9,7 +9,7 @@ use Rattle.lease_disk.specs.Images.{overwritten}
 use Rattle.lease_disk.specs.Past.{content_of, is_pending}
 use Rattle.lease_disk.specs.PastLaws.{content_is_image, still_content}
 use Rattle.lease_disk.specs.Stop.{is_met, stops_within}
-use Rattle.lease_disk.specs.MemDisk.{DiskState, Leads, told_of, risen, left_by, restarted}
+use Rattle.lease_disk.specs.MemDisk.{DiskState, Leads, told_of, left_by, restarted, risen}
 use Rattle.lease_disk.specs.Runs.{IsReadyFor, ran_is, run_stop, opening_is_served}
 use Rattle.leaf_lease.specs.LeaseFile.{head_size, file_size}
 use Rattle.leaf_lease.specs.Leases.{lease_calls}
@@ -18,7 +18,7 @@ use Rattle.lms_core.specs.Parameters.{levels_of, leaves_of}
 use Rattle.lms_core.specs.Tree.{Key, signature_of}
 use Rattle.aip_rules.specs.declared.Arming.{Arming}
 use Rattle.aip_host.specs.declared.signing.Signing.TheVariants.{Signed, Dry, Stopped}
-use Rattle.aip_host.specs.Signing.{KeyState, IsSpentBelow, IsArming, Spends, SpendsUp, SpendsWhile, stop_as, is_dry, spent_on, signing_of, next_past, next_after, stop_after, down_after, disk_after, placed_as}
+use Rattle.aip_host.specs.Signing.{KeyState, IsSpentBelow, IsArming, Spends, SpendsUp, SpendsWhile, stop_as, is_dry, spent_on, signing_of, next_once_stopped, next_after, stop_after, down_after, disk_after, placed_as}
 use Rattle.aip_host.specs.Holding.{IsAtRest, HasPlace, IsDone, first_free}
 use Rattle.aip_host.proofs.Bytes.{spent_by, first_free_is}
 
@@ -150,12 +150,12 @@ module _ (kept : KeyState) (up : SpendsUp kept) (spends : Spends kept) (place : 
   -- and then the key is down, and the leaf is spent where the stop leaves another byte than 0
   pub stopped_leaves : (new : DiskState) → Ran Leads kept.disk (lease_calls kept.next) false new
       → (arming : Arming) × (kept.stop ≡ Some arming)
-      × (first_free (leaves_of kept.key.height) (restarted new).base ≡ next_past kept.next (Some arming))
+      × (first_free (leaves_of kept.key.height) (restarted new).base ≡ next_once_stopped kept.next (Some arming))
       × Spends (record { key = kept.key; next = first_free (leaves_of kept.key.height) (restarted new).base; stop = None; is_down = true; disk = new })
   stopped_leaves new ran =
       let ends = fell kept.stop new refl ran in
       let arming = ends.0 in
-      let next = next_past kept.next (Some arming) in
+      let next = next_once_stopped kept.next (Some arming) in
       let after : IsSpentBelow kept.key next (restarted new).base
       = subst (IsSpentBelow kept.key next) (sym ends.2) (spent_by kept.key kept.next arming.byte _ spent below) in
       let within : next ≤ leaves_of kept.key.height = at_most (arming.byte == 0) in
@@ -186,8 +186,8 @@ module _ (kept : KeyState) (up : SpendsUp kept) (spends : Spends kept) (place : 
   ends_stopped message arming is = sym (ap (λ b. if b then Dry else spent_on kept message kept.stop) not_dry ∙ ap (spent_on kept message) is)
 
   -- how the key stands then
-  pub next_once : (stop : Option Arming) → kept.stop ≡ stop → next_past kept.next stop ≡ next_after kept
-  next_once stop is = sym (ap (λ b. if b then kept.next else next_past kept.next kept.stop) not_dry ∙ ap (next_past kept.next) is)
+  pub next_once : (stop : Option Arming) → kept.stop ≡ stop → next_once_stopped kept.next stop ≡ next_after kept
+  next_once stop is = sym (ap (λ b. if b then kept.next else next_once_stopped kept.next kept.stop) not_dry ∙ ap (next_once_stopped kept.next) is)
 
   pub stop_once : None ≡ stop_after kept
   stop_once = sym (ap (λ b. if b then kept.stop else None) not_dry)
@@ -230,17 +230,3 @@ module _ (kept : KeyState) (up : SpendsUp kept) (spends : Spends kept) (place : 
         disk = disk_once new;
         spends = subst Down (sym same_key) after.3;
       }
-
--- a dry key stays as it is
-pub done_dry : (kept : KeyState) (message : List ℕ) → Spends kept → kept.is_down ≡ false → kept.next ≡ leaves_of kept.key.height → IsDone kept message Dry kept
-done_dry kept message spends up is =
-    let dry : is_dry kept ≡ true = grind (arith, nat_tests) in
-    record {
-      answer = sym (ap (λ b. if b then Dry else spent_on kept message kept.stop) dry);
-      next = sym (ap (λ b. if b then kept.next else next_past kept.next kept.stop) dry);
-      stop = sym (ap (λ b. if b then kept.stop else None) dry);
-      down = up ∙ sym (ap (λ b. if b then false else is_some kept.stop) dry);
-      same_key = refl;
-      disk = sym (ap (λ b. if b then placed_as kept.disk kept.disk else kept.disk) dry);
-      spends = spends;
-    }

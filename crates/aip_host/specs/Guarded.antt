@@ -12,7 +12,7 @@ use Rattle.shutoff_filter.specs.Store.{disk_of, room_of, slots_of}
 use Rattle.aip_host.specs.declared.guard.Obeying.{Obeying}
 use Rattle.aip_host.specs.declared.guard.State.{State}
 use Rattle.aip_host.specs.declared.guard.State.TheVariants.{Ready, Fallen}
-use Rattle.aip_host.specs.Guarding.{GuardState, Keeps, IsFileOf, obeying_of, halt_after, down_after, entries_after}
+use Rattle.aip_host.specs.Guarding.{GuardState, Keeps, IsFileOf, obeying_of, halt_after, down_after_order, entries_after}
 
 -- what callers see of a guard that is up or that fell
 abbrev pub guard_in : State → GuardState
@@ -25,18 +25,18 @@ guard_of (Some state) = guard_in state
 guard_of None = record { room = 0; entries = []; halt = None; is_down = true; disk = new_disk 0 [] }
 
 -- there is a guard, and it keeps its entries on its disk
-abbrev pub IsHeld : Option State → Type 0
-IsHeld (Some state) = Keeps (guard_in state)
-IsHeld None = ⊥
+abbrev pub HoldsEntries : Option State → Type 0
+HoldsEntries (Some state) = Keeps (guard_in state)
+HoldsEntries None = ⊥
 
 -- the disk serves, nothing on it is pending, and it holds a file of these entries
-pub record IsAtRest (room : ℕ) (entries : List ShutOffEntry) (disk : DiskState) : Type 0 where
+pub record IsFilterAtRest (room : ℕ) (entries : List ShutOffEntry) (disk : DiskState) : Type 0 where
   pub holds : file_size room ≤ disk.room
   pub quiet : IsQuiet disk
   pub file : IsFileOf room entries (content_of disk.base disk.past)
 
 -- the guard is up again, with no halt armed, and its entries are as they were
-pub record IsWoken (kept after : GuardState) : Type 0 where
+pub record IsGuardWoken (kept after : GuardState) : Type 0 where
   pub up : after.is_down ≡ false
   pub unarmed : after.halt ≡ None
   pub same_room : after.room ≡ kept.room
@@ -44,7 +44,7 @@ pub record IsWoken (kept after : GuardState) : Type 0 where
   pub keeps : Keeps after
 
 -- the record of the disk has place for closing a slot and writing an entry: six entries, with 29 bytes in all
-pub record HasPlace (disk : DiskState) : Type 0 where
+pub record HasPlaceForEntry (disk : DiskState) : Type 0 where
   pub entries : length disk.past + 6 ≤ disk.entry_place
   pub bytes : kept_bytes disk.past + 29 ≤ disk.byte_place
 
@@ -63,15 +63,15 @@ pub record IsWritten (now : ℕ) (kept : GuardState) (entries : List ShutOffEntr
   pub keeps : Keeps after
 
 -- how a guard stands after an order that ended so
-pub record IsDone (now : ℕ) (kept : GuardState) (to : KeyId) (until : ℕ) (obeying : Obeying) (after : GuardState) : Type 0 where
+pub record IsOrderDone (now : ℕ) (kept : GuardState) (to : KeyId) (until : ℕ) (obeying : Obeying) (after : GuardState) : Type 0 where
   pub answer : obeying ≡ obeying_of kept to until
   pub halt : after.halt ≡ halt_after kept to until
-  pub down : after.is_down ≡ down_after kept to until
+  pub down : after.is_down ≡ down_after_order kept to until
   pub entries : SameInForce now (entries_after kept to until) after.entries
   pub same_room : after.room ≡ kept.room
   pub keeps : Keeps after
 
 -- how a guard stands after an order: where memory was wanting, as before
 abbrev pub IsObeying : {E : Type 0} → ℕ → GuardState → KeyId → ℕ → Result Obeying E → GuardState → Type 0
-IsObeying now kept to until (Ok obeying) after = IsDone now kept to until obeying after
+IsObeying now kept to until (Ok obeying) after = IsOrderDone now kept to until obeying after
 IsObeying now kept to until (Err end) after = after ≡ kept

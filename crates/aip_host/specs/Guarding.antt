@@ -83,8 +83,8 @@ abbrev pub halt_after : GuardState → KeyId → ℕ → Option Arming
 halt_after kept to until = if is_told kept to until then kept.halt else None
 
 -- whether the guard is down after an order: it was to be written, and a halt was armed
-abbrev pub down_after : GuardState → KeyId → ℕ → Bool
-down_after kept to until = if is_told kept to until then false else is_some kept.halt
+abbrev pub down_after_order : GuardState → KeyId → ℕ → Bool
+down_after_order kept to until = if is_told kept to until then false else is_some kept.halt
 
 -- the entries after an order
 abbrev pub entries_after : GuardState → KeyId → ℕ → List ShutOffEntry

@@ -30,9 +30,9 @@ kept_of (Some state) = kept_in state
 kept_of None = record { key = key_from [] W1 H5; next = 0; stop = None; is_down = true; disk = new_disk 0 [] }
 
 -- there is a key, and it spends its leaves on its disk
-abbrev pub IsHeld : Option State → Type 0
-IsHeld (Some state) = Spends (kept_in state)
-IsHeld None = ⊥
+abbrev pub HoldsKey : Option State → Type 0
+HoldsKey (Some state) = Spends (kept_in state)
+HoldsKey None = ⊥
 
 -- the disk serves, nothing on it is pending, and just the leaves of the key below the next are spent on it
 pub record IsAtRest (key : Key) (next : ℕ) (disk : DiskState) : Type 0 where

@@ -5,7 +5,7 @@ use Rattle.lease_disk.specs.declared.stop.Stop.TheVariants.{Unarmed, Armed}
 use Rattle.lease_disk.specs.Past.{is_pending}
 use Rattle.lease_disk.specs.MemDisk.{DiskState, MayLeave, restarted, stopped_at}
 use Rattle.leaf_lease.specs.LeaseFile.{IsOpen, HasKey, file_size, head_size}
-use Rattle.lms_core.specs.Parameters.{levels_of, leaves_of}
+use Rattle.lms_core.specs.Parameters.{levels_of, leaves_of, most_signature}
 use Rattle.lms_core.specs.Tree.{Key, identifier_of, signature_of}
 use Rattle.lms_core.specs.Verify.{IsValidSignature}
 use Rattle.aip_rules.specs.declared.Arming.{Arming}
@@ -91,18 +91,18 @@ SignsValidly key message (Stopped leaf call byte) = Unit {0}
 
 -- where a leaf signed, the signature is so short that a frame has room for it
 abbrev pub IsShort : Signing → Type 0
-IsShort (Signed leaf signature) = length signature ≤ 8844
+IsShort (Signed leaf signature) = length signature ≤ most_signature
 IsShort Dry = Unit {0}
 IsShort (Stopped leaf call byte) = Unit {0}
 
 -- the leaf that is next once the stop fell: a stop that leaves the byte 0 spends no leaf
-abbrev pub next_past : ℕ → Option Arming → ℕ
-next_past next None = next + 1
-next_past next (Some arming) = if arming.byte == 0 then next else next + 1
+abbrev pub next_once_stopped : ℕ → Option Arming → ℕ
+next_once_stopped next None = next + 1
+next_once_stopped next (Some arming) = if arming.byte == 0 then next else next + 1
 
 -- the leaf that signs next after a signing
 abbrev pub next_after : KeyState → ℕ
-next_after kept = if is_dry kept then kept.next else next_past kept.next kept.stop
+next_after kept = if is_dry kept then kept.next else next_once_stopped kept.next kept.stop
 
 -- the stop that is armed after a signing: a dry key keeps its own, and else none is left
 abbrev pub stop_after : KeyState → Option Arming

@@ -20,9 +20,9 @@ use Rattle.aip_host.specs.StandsFor.{HostStandsFor}
 
 -- ---- the inputs by which something is asked of the host of a name
 
--- the input lets it act
-abbrev pub LetsAct : List Entry → List ℕ → Input → Type 0
-LetsAct tr name input = lets_act tr input name ≡ true
+-- the input asks it to act
+abbrev pub AsksItToAct : List Entry → List ℕ → Input → Type 0
+AsksItToAct tr name input = lets_act tr input name ≡ true
 
 -- the input arms this stop of its signings
 abbrev pub ArmsStop : (call byte : ℕ) → List Entry → List ℕ → Input → Type 0

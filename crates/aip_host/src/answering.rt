@@ -2,6 +2,7 @@
 ghost use Rattle.std.specs.Prelude.{◌≡◌, ◌≤◌, false, length, IfOk, OnOk};
 ghost use Rattle.aip_frame.specs.Frame.{frame_bytes, most_body};
 ghost use Rattle.lms_core.specs.Tree.{public_key_of};
+ghost use Rattle.lms_core.specs.Parameters.{most_signature};
 ghost use Rattle.verify_packet.specs.Response.{response_of, response_text_of};
 ghost use Rattle.aip_host.specs.Signing.{IsShort, Spends, signing_of, next_after, stop_after, down_after};
 ghost use Rattle.aip_host.specs.Ended.{ended, response_frame};
@@ -33,7 +34,7 @@ fn short_response(
     key: &PublicKey,
     signature: &[u8],
 ) -> Result<Bytes, AllocError>
-    requires { length signature.now ≤ 8844 }
+    requires { length signature.now ≤ most_signature }
     ensures body { IfOk result (λ body. body ≡ response_of challenge.now key.now signature.now) }
     ensures size { IfOk result (λ body. length body ≤ most_body) }
 {
@@ -50,7 +51,7 @@ fn response(
     signature: &[u8],
 ) -> Result<Bytes, AllocError>
     requires challenge { length challenge.now.body ≡ 154 }
-    requires short { length signature.now ≤ 8844 }
+    requires short { length signature.now ≤ most_signature }
     ensures { IfOk result (λ bytes. bytes ≡ frame_bytes (response_frame from challenge.now key.now signature.now)) }
 {
     let asked = challenge_in(challenge);

@@ -11,7 +11,7 @@ ghost use Rattle.aip_host.specs.HostState.{key_in, standing_of};
 ghost use Rattle.aip_host.specs.Withholding.{LeavesUnordered};
 ghost use Rattle.aip_host.specs.After.{Follows, IsNew, IsRestarted, halted_in, stopped_in};
 ghost use Rattle.aip_host.specs.StandsFor.{DisksServe, HostStandsFor};
-ghost use Rattle.aip_host.specs.StandsOn.{ArmsHalt, ArmsStop, IsSeated, LetsAct, StandsOn, StartsAnew};
+ghost use Rattle.aip_host.specs.StandsOn.{ArmsHalt, ArmsStop, IsSeated, AsksItToAct, StandsOn, StartsAnew};
 
 use crate::host::Host;
 use aip_addr::Address;
@@ -62,7 +62,7 @@ impl Host {
             ≡ put_by (standing_of self.old now) (frame_bytes (sent_frame to self.old.seat.address packet body.now))) }
         ensures follows { IfOk result (λ reaction. Follows now self.old reaction self.new) }
         ensures same { OnErr result (self.new ≡ self.old) }
-        ensures stands { IfOk result (λ reaction. StandsOn now self.old LetsAct
+        ensures stands { IfOk result (λ reaction. StandsOn now self.old AsksItToAct
             (λ s. put_by s (frame_bytes (sent_frame to s.seat.address packet body.now))) reaction self.new) }
         // The guard and the key, with their files, are as they were.
         ensures guard { self.new.guard ≡ self.old.guard }
@@ -81,7 +81,7 @@ impl Host {
         ensures follows { IfOk result (λ reaction. Follows now self.old reaction self.new) }
         ensures same { OnErr result (self.new ≡ self.old) }
         ensures stands { IfOk result (λ reaction.
-            StandsOn now self.old LetsAct (λ s. put_by s bytes.now) reaction self.new) }
+            StandsOn now self.old AsksItToAct (λ s. put_by s bytes.now) reaction self.new) }
         // The guard and the key, with their files, are as they were.
         ensures guard { self.new.guard ≡ self.old.guard }
         ensures key { self.new.key ≡ self.old.key }
@@ -98,7 +98,7 @@ impl Host {
         ensures reaction { IfOk result (λ reaction. reaction ≡ at_host (standing_of self.old now) bytes.now) }
         ensures follows { IfOk result (λ reaction. Follows now self.old reaction self.new) }
         ensures stands { IfOk result (λ reaction.
-            StandsOn now self.old LetsAct (λ s. at_host s bytes.now) reaction self.new) }
+            StandsOn now self.old AsksItToAct (λ s. at_host s bytes.now) reaction self.new) }
         // Unless an order was obeyed, or its writing cut off, the guard, with its file, is as it was.
         ensures unordered { IfOk result (λ reaction. LeavesUnordered reaction self.old.guard self.new.guard) }
         ensures disks { DisksServe self.new }
@@ -123,7 +123,7 @@ impl Host {
             → IfOk result (λ reaction. reaction ≡ shut_by (standing_of self.old now) key frame ttl) }
         ensures follows { IfOk result (λ reaction. Follows now self.old reaction self.new) }
         ensures stands { (key : Key) (frame : Framed) → key_in self.old.key ≡ Some key → frame_of named.now ≡ Some frame
-            → IfOk result (λ reaction. StandsOn now self.old LetsAct (λ s. shut_by s key frame ttl) reaction self.new) }
+            → IfOk result (λ reaction. StandsOn now self.old AsksItToAct (λ s. shut_by s key frame ttl) reaction self.new) }
         // The guard, with its file, is as it was.
         ensures guard { self.new.guard ≡ self.old.guard }
         ensures disks { DisksServe self.new }

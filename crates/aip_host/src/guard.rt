@@ -10,7 +10,7 @@ ghost use Rattle.shutoff_filter.specs.Judged.{is_full, is_in_log, shutoff_verdic
 ghost use Rattle.shutoff_filter.specs.Store.{disk_of, room_of, slots_of, spare_of};
 ghost use Rattle.aip_host.specs.declared.guard.State.TheVariants.{Ready, Fallen};
 ghost use Rattle.aip_host.specs.Guarding.{Keeps, IsHalting, entries_with, is_told, with_halt};
-ghost use Rattle.aip_host.specs.Guarded.{guard_in, HasPlace, IsAtRest, IsDone, IsObeying, IsReadied, IsWoken, IsWritten};
+ghost use Rattle.aip_host.specs.Guarded.{guard_in, HasPlaceForEntry, IsFilterAtRest, IsOrderDone, IsObeying, IsReadied, IsGuardWoken, IsWritten};
 
 use aip_addr::KeyId;
 use aip_rules::Arming;
@@ -62,18 +62,18 @@ impl Model for Guard {
 
     ghost Value = { GuardState };
 
-    ghost use Rattle.aip_host.specs.Guarded.{guard_of, IsHeld};
+    ghost use Rattle.aip_host.specs.Guarded.{guard_of, HoldsEntries};
 
     ghost view = { λ guard. guard_of guard.state };
 
-    ghost invariant = { λ guard. IsHeld guard.state };
+    ghost invariant = { λ guard. HoldsEntries guard.state };
 }
 
 // A disk that is formatted for a filter of this room.
 fn fresh_disk(alloc: Global, room: u16) -> Result<MemDisk, AllocError>
     requires some { 1 ≤ room }
     requires few { room ≤ 256 }
-    ensures rest { IfOk result (λ disk. IsAtRest room [] disk) }
+    ensures rest { IfOk result (λ disk. IsFilterAtRest room [] disk) }
 {
     let disk = MemDisk::new(alloc, file_size(room), Vec::new(alloc))?;
     match format_store(disk, room) {
@@ -84,9 +84,9 @@ fn fresh_disk(alloc: Global, room: u16) -> Result<MemDisk, AllocError>
 
 // The filter on a disk that is at rest.
 fn opened(disk: MemDisk, slots: Slots) -> FilterStore<MemDisk>
-    requires rest { (entries : List Told) × IsAtRest slots.room entries disk }
+    requires rest { (entries : List Told) × IsFilterAtRest slots.room entries disk }
     ensures room { room_of result ≡ slots.room }
-    ensures entries { (entries : List Told) → IsAtRest slots.room entries disk → entries_of (slots_of result) ≡ entries }
+    ensures entries { (entries : List Told) → IsFilterAtRest slots.room entries disk → entries_of (slots_of result) ≡ entries }
     ensures keeps { Keeps (guard_in (Ready result None)) }
 {
     match FilterStore::open(disk, slots) {
@@ -109,7 +109,7 @@ fn put_down(state: State) -> (MemDisk, Slots)
 // The guard after a restart of its disk.
 fn woken(state: State) -> State
     requires keeps { Keeps (guard_in state) }
-    ensures up { IsWoken (guard_in state) (guard_in result) }
+    ensures up { IsGuardWoken (guard_in state) (guard_in result) }
 {
     let (disk, slots) = put_down(state);
     State::Ready {
@@ -130,7 +130,7 @@ fn sized(to: &KeyId) -> KeyId
 fn readied(store: FilterStore<MemDisk>, now: u64) -> FilterStore<MemDisk>
     requires soon { now < 2 ^ 48 }
     requires keeps { Keeps (guard_in (Ready store None)) }
-    requires place { HasPlace (disk_of store) }
+    requires place { HasPlaceForEntry (disk_of store) }
     requires few { length (in_force now (entries_of (slots_of store))) ≤ room_of store }
     ensures { IsReadied now (guard_in (Ready store None)) (spare_of result) (guard_in (Ready result None)) }
 {
@@ -191,10 +191,10 @@ fn written(
     requires soon { now < 2 ^ 48 }
     requires later { now < until }
     requires keeps { Keeps (guard_in (Ready store halt)) }
-    requires place { HasPlace (disk_of store) }
+    requires place { HasPlaceForEntry (disk_of store) }
     requires few { others_in_force now to.now (entries_of (slots_of store)) < room_of store }
     requires untold { is_told (guard_in (Ready store halt)) to.now until ≡ false }
-    ensures { IsDone now (guard_in (Ready store halt)) to.now until result.1 (guard_in result.0) }
+    ensures { IsOrderDone now (guard_in (Ready store halt)) to.now until result.1 (guard_in result.0) }
 {
     let store = readied(store, now);
     match halt {
@@ -258,7 +258,7 @@ fn halted(state: State, arming: Arming) -> State
 }
 
 impl Guard {
-    ghost use Rattle.aip_host.specs.Guarding.{obeying_of, halt_after, down_after, entries_after};
+    ghost use Rattle.aip_host.specs.Guarding.{obeying_of, halt_after, down_after_order, entries_after};
 
     /// A guard with room for so many key identifiers, 1 to 256, that was told nothing. It makes a disk, formats and opens it.
     /// The only error is want of memory.
@@ -327,7 +327,7 @@ impl Guard {
         // How the order ends, and how the guard stands then.
         ensures answer { IfOk result (λ obeying. obeying ≡ obeying_of self.old to.now until) }
         ensures halt { OnOk result (self.new.halt ≡ halt_after self.old to.now until) }
-        ensures down { OnOk result (self.new.is_down ≡ down_after self.old to.now until) }
+        ensures down { OnOk result (self.new.is_down ≡ down_after_order self.old to.now until) }
         ensures entries { OnOk result (SameInForce now (entries_after self.old to.now until) self.new.entries) }
         ensures covered { is_told self.old to.now until ≡ true → self.new ≡ self.old }
         // Where memory is wanting, the guard stands as before.

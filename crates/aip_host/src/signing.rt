@@ -1,6 +1,5 @@
 // A key of a host inside a run, with the disk on which its leaves are spent.
 ghost use Rattle.std.specs.Prelude.{◌≡◌, ◌≤◌, ℕ, Some, None, false, IfOk, OnOk, OnErr};
-ghost use Rattle.lease_disk.specs.MemDisk.{risen};
 ghost use Rattle.lms_core.specs.Tree.{public_key_of};
 ghost use Rattle.host_signer.specs.Signers.{disk_of, key_of, next_of};
 ghost use Rattle.aip_host.specs.declared.signing.State.TheVariants.{Ready};
@@ -51,11 +50,11 @@ impl Model for SigningKey {
 
     ghost Value = { KeyState };
 
-    ghost use Rattle.aip_host.specs.Holding.{kept_of, IsHeld};
+    ghost use Rattle.aip_host.specs.Holding.{kept_of, HoldsKey};
 
     ghost view = { λ held. kept_of held.state };
 
-    ghost invariant = { λ held. IsHeld held.state };
+    ghost invariant = { λ held. HoldsKey held.state };
 }
 
 // A disk that is formatted for the key of a tree.

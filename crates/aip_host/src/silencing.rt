@@ -2,6 +2,7 @@
 ghost use Rattle.std.specs.Prelude.{◌≡◌, ◌≤◌, false, length, IfOk, OnOk};
 ghost use Rattle.aip_frame.specs.Frame.{frame_bytes, most_body};
 ghost use Rattle.lms_core.specs.Tree.{public_key_of};
+ghost use Rattle.lms_core.specs.Parameters.{most_signature};
 ghost use Rattle.shutoff_filter.specs.Body.{shutoff_of, shutoff_text_of};
 ghost use Rattle.aip_host.specs.Signing.{IsShort, Spends, signing_of, next_after, stop_after, down_after};
 ghost use Rattle.aip_host.specs.Ended.{demand_frame, ended};
@@ -36,7 +37,7 @@ fn short_demand(
     key: &PublicKey,
     signature: &[u8],
 ) -> Result<Bytes, AllocError>
-    requires { length signature.now ≤ 8844 }
+    requires { length signature.now ≤ most_signature }
     ensures body { IfOk result (λ body. body
         ≡ shutoff_of demand.now.hash demand.now.issue demand.now.ttl key.now signature.now) }
     ensures size { IfOk result (λ body. length body ≤ most_body) }
@@ -60,7 +61,7 @@ fn demanded(
     key: &PublicKey,
     signature: &[u8],
 ) -> Result<Bytes, AllocError>
-    requires short { length signature.now ≤ 8844 }
+    requires short { length signature.now ≤ most_signature }
     ensures { IfOk result (λ bytes. bytes ≡ frame_bytes (demand_frame from demand.now key.now signature.now)) }
 {
     let body = short_demand(alloc, demand, key, signature)?;

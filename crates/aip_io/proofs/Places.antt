@@ -53,11 +53,6 @@ same_name [] name other same some = cc
 same_name (file ∷ files) name other same some =
     same_step file files name other (bytes_eq file.name name) (bytes_eq file.name other) refl refl (same_name files name other) same some
 
--- what holds of a file's bytes, where there is one, holds of the text that they are
-pub holds_of_text : (P : List ℕ → Type 0) (told : Option (List ℕ)) (file : Option NamedText) → told ≡ option_map (λ f. f.bytes) file → IfSome file (λ f. P f.bytes) → IfSome told P
-holds_of_text P told None is holds = rw is tt
-holds_of_text P told (Some file) is holds = rw is holds
-
 -- no other name whose text is told stands at the place of a name
 pub other_places : (files : List NamedText) (name other : List ℕ) (i : ℕ) → place_of files name ≡ i → other ≢ name → IsSome (text_under files other) → place_of files other ≢ i
 other_places files name other i is differ some same = differ (sym (same_name files name other (is ∙ sym same) some))

@@ -20,10 +20,6 @@ pub and_then-and_then : (taken : Option (List ℕ)) (first second : List ℕ) �
 and_then-and_then None first second = refl
 and_then-and_then (Some taken) first second = ap Some (append_assoc taken first second)
 
--- the whole of the bytes is a first part of them
-pub TookPart-whole : (before now : Option (List ℕ)) (bytes : List ℕ) → now ≡ and_then before bytes → TookPart before now bytes
-TookPart-whole before now bytes took = record { part = bytes; rest = []; whole = append-nil bytes; took = took }
-
 -- after some bytes, a first part of the next is a first part of both
 pub TookPart-after : (before mid now : Option (List ℕ)) (first second : List ℕ) → mid ≡ and_then before first → TookPart mid now second → TookPart before now (first ++ second)
 TookPart-after before mid now first second took part = record {

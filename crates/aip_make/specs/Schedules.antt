@@ -9,9 +9,10 @@ use Rattle.aip_topo.specs.Sound.{IsSound}
 use Rattle.aip_rules.specs.declared.Entry.{Entry}
 use Rattle.aip_rules.specs.declared.StepFault.{StepFault}
 use Rattle.aip_rules.specs.State.{flight_count}
-use Rattle.aip_rules.specs.Step.{after_step, step_of}
+use Rattle.aip_rules.specs.Step.{after_step, step_of, most_inputs}
 use Rattle.aip_rules.specs.Texts.{ran, ran_over, scheduled}
-use Rattle.aip_make.specs.Workload.{made_from, made_input, made_run, made_topology, next_state, state_behind}
+use Rattle.aip_make.specs.Workload.{made_from, made_input, made_run, made_topology, next_state, state_behind, made_lines}
+use Rattle.aip_text.specs.Lines.{most_lines}
 
 -- the inputs behind a step: none where it is refused
 abbrev pub behind_step : Result (List Event) StepFault → (List Event → List Input) → List Input
@@ -35,13 +36,13 @@ schedule_of inputs = flat_map (λ input. input_line input ++ 10 ∷ []) inputs
 -- below 60,000, and at most 65,536 flights have left
 abbrev pub MadeLinesAreScheduled : Type 0
 MadeLinesAreScheduled =
-    (number index flights state : ℕ) → number ≤ 65536 → index < 60000 → flights ≤ 65536
+    (number index flights state : ℕ) → number ≤ most_lines → index < made_lines → flights ≤ most_inputs
     → scheduled number (input_line (made_input index flights state)) ≡ Ok (Some (made_input index flights state))
 
 -- the schedule of the made lines runs as the made lines do
 abbrev pub MadeLinesRunSo : Type 0
 MadeLinesRunSo =
-    (topo : Topology) → IsSound topo → (state lines : ℕ) → lines ≤ 60000
+    (topo : Topology) → IsSound topo → (state lines : ℕ) → lines ≤ made_lines
     → ran topo (schedule_of (made_inputs topo [] state 0 lines)) ≡ made_from topo [] state 0 lines
 
 -- the schedule of the first so many made lines over what the topology's text gives
@@ -56,4 +57,4 @@ made_schedule n lines = schedule_over (topology_of (made_topology n)) (state_beh
 -- a workload is the run of two texts: of its topology, and of the schedule of its lines
 abbrev pub WorkloadsAreRuns : Type 0
 WorkloadsAreRuns =
-    (n lines : ℕ) → lines ≤ 60000 → ran_over (topology_of (made_topology n)) (made_schedule n lines) ≡ made_run n lines
+    (n lines : ℕ) → lines ≤ made_lines → ran_over (topology_of (made_topology n)) (made_schedule n lines) ≡ made_run n lines

@@ -10,6 +10,10 @@ use Rattle.aip_rules.specs.State.{flight_count}
 use Rattle.aip_rules.specs.Step.{step_of}
 use Rattle.aip_rules.specs.Texts.{Done, Topology_refused, EndedRun, by_step}
 
+-- how many lines a workload has
+abbrev pub made_lines : ℕ
+made_lines = 60000
+
 -- the text of the topology of workload number n
 unfoldable pub made_topology : ℕ → List ℕ
 made_topology n = (topology_text n).0

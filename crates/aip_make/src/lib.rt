@@ -5,7 +5,7 @@
 //! buffer, and from there into the hash of the trace's text.
 //!
 //! ```text
-//! let summary = made(alloc, 1, 60_000)?;
+//! let summary = made(alloc, 1, MADE_LINES)?;
 //! let text = summary.text(alloc)?;
 //! ```
 #![tactic(auto)]
@@ -21,7 +21,7 @@ mod writing;
 
 pub use ends::MadeEnd;
 pub use laws::{a_made_line_is_scheduled, a_workload_is_a_run, made_lines_run_so};
-pub use runs::made;
+pub use runs::{MADE_LINES, made};
 pub use summary::Summary;
 
 #[cfg(test)]

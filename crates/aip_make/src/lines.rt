@@ -7,7 +7,7 @@ ghost use Rattle.aip_core.specs.StandsFor.{StandsFor};
 ghost use Rattle.aip_make.specs.Ends.{IsAnswer, answer_to};
 ghost use Rattle.aip_make.specs.Making.{HasCome, IsTallyOf};
 ghost use Rattle.aip_make.specs.Summaries.{summary_of};
-ghost use Rattle.aip_make.specs.Workload.{made_input, next_state};
+ghost use Rattle.aip_make.specs.Workload.{made_input, next_state, made_lines};
 
 use crate::ends::MadeEnd;
 use crate::summary::Summary;
@@ -37,7 +37,7 @@ fn draw_input(alloc: Global, words: &mut Gen, index: u32, flights: u32) -> Resul
 
 /// Takes the line with this index: draws it, steps the network, and counts.
 pub fn take_line(alloc: Global, course: Course, index: u32) -> Result<Course, MadeEnd>
-    requires { index < 60000 }
+    requires { index < made_lines }
     ensures goes { IfOk result (λ after. (topo : Topology) (left : ℕ) (whole : EndedRun)
         → HasCome topo course index (left + 1) whole → HasCome topo after (index + 1) left whole) }
     ensures ends { IfErr result (λ end. (topo : Topology) (lines left : ℕ) (whole : EndedRun)

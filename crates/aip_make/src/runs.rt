@@ -6,7 +6,7 @@ ghost use Rattle.aip_rules.specs.Texts.{EndedRun, ran_over};
 ghost use Rattle.aip_make.specs.Ends.{IsAnswer, answer_to};
 ghost use Rattle.aip_make.specs.Making.{HasCome};
 ghost use Rattle.aip_make.specs.Schedules.{made_schedule};
-ghost use Rattle.aip_make.specs.Workload.{made_run, made_topology};
+ghost use Rattle.aip_make.specs.Workload.{made_run, made_topology, made_lines};
 
 use crate::ends::MadeEnd;
 use crate::lines::{Course, sum_up, take_line};
@@ -14,9 +14,12 @@ use crate::opening::open;
 use crate::summary::Summary;
 use std::alloc::Global;
 
+/// How many lines a workload has.
+pub const MADE_LINES: u32 = 60_000;
+
 /// Takes so many lines, and sums up.
 pub fn play(alloc: Global, opened: Course, lines: u32) -> Result<Summary, MadeEnd>
-    requires { lines ≤ 60000 }
+    requires { lines ≤ made_lines }
     ensures { (topo : Topology) (whole : EndedRun) → HasCome topo opened 0 lines whole → IsAnswer (answer_to lines whole) result }
 {
     let mut course = opened;
@@ -31,7 +34,7 @@ pub fn play(alloc: Global, opened: Course, lines: u32) -> Result<Summary, MadeEn
 
 // Takes the lines of a workload one by one, as they are drawn.
 fn taken(alloc: Global, n: u32, lines: u32) -> Result<Summary, MadeEnd>
-    requires { lines ≤ 60000 }
+    requires { lines ≤ made_lines }
     ensures { IsAnswer (answer_to lines (made_run n lines)) result }
 {
     match open(alloc, n) {
@@ -46,7 +49,7 @@ fn taken(alloc: Global, n: u32, lines: u32) -> Result<Summary, MadeEnd>
 /// nothing is taken.
 #[tactic(auto, using(crate::proofs::RunsSo::as_texts))]
 pub fn made(alloc: Global, n: u32, lines: u32) -> Result<Summary, MadeEnd>
-    requires { lines ≤ 60000 }
+    requires { lines ≤ made_lines }
     // The answer is the one to the run of the made topology over the schedule of the made lines, or want of memory.
     ensures texts { IsAnswer (answer_to lines (ran_over (topology_of (made_topology n)) (made_schedule n lines))) result }
     // The same by the lines one by one: each is drawn behind the words of those before it.

@@ -1,8 +1,8 @@
 -- Record files: the records that one gives, or the first line that is refused, with its first fault.
 use Rattle.std.specs.Prelude.{ℕ, ◌+◌, nat_lt, Bool, not, if◌then◌else◌, List, [], ◌∷◌, length, Option, Some, None, Result, Ok, Err}
 use Rattle.std.specs.List.{list_any}
-use Rattle.std.specs.Str.{bytes_eq}
 use Rattle.aip_addr.specs.declared.ids.Id.{Id}
+use Rattle.aip_addr.specs.Ids.{is_same_id}
 use Rattle.aip_text.specs.Lines.{lines_of, is_skipped, has_carriage_return, most_line_bytes, most_lines}
 use Rattle.aip_text.specs.Words.{hex_of}
 use Rattle.aip_topo.specs.declared.topology.Domain.{Domain}
@@ -34,7 +34,7 @@ written number line =
 
 -- some domain has this AD
 abbrev pub is_domain : List Domain → Id → Bool
-is_domain domains ad = list_any (λ (domain : Domain). bytes_eq domain.ad.bytes ad.bytes) domains
+is_domain domains ad = list_any (λ (domain : Domain). is_same_id domain.ad ad) domains
 
 -- the fault that the answer of a registry stands for
 abbrev pub fault_of : Published → Option RecordFault

@@ -1,19 +1,10 @@
 // The records that a registry keeps, as text.
 ghost use Rattle.std.specs.Prelude.{◌≡◌, ◌++◌, ◌∷◌, [], decimal, OnOk, IfOk};
-ghost use Rattle.aip_records.specs.Listing.{kind_word, list_text, record_line};
+ghost use Rattle.aip_records.specs.Listing.{list_text, record_line};
 
-use aip_registry::{Record, RecordKind, Registry};
+use aip_registry::{Record, Registry};
 use aip_text::{push_hex, push_number, push_space, push_text};
 use std::alloc::{AllocError, Global};
-
-fn word_of(kind: RecordKind) -> &'static [u8]
-    ensures { result.now ≡ kind_word kind }
-{
-    match kind {
-        RecordKind::Peer => b"peer",
-        RecordKind::Bind => b"bind",
-    }
-}
 
 // Appends the numbers of a record, and ends the line.
 fn push_numbers(out: &mut Vec<u8>, number: u64, until: u64) -> Result<(), AllocError>
@@ -29,7 +20,7 @@ fn push_numbers(out: &mut Vec<u8>, number: u64, until: u64) -> Result<(), AllocE
 fn push_record(out: &mut Vec<u8>, fields: &Record) -> Result<(), AllocError>
     ensures { OnOk result (out.new.items ≡ out.old.items ++ record_line fields.now) }
 {
-    push_text(out, word_of(fields.kind))?;
+    push_text(out, fields.kind.word())?;
     push_space(out)?;
     push_hex(out, &fields.ad.bytes)?;
     push_space(out)?;

@@ -1,11 +1,10 @@
 -- The records that are kept of those that were published: the newest of each kind, AD and other.
 use Rattle.std.specs.Prelude.{◌≡◌, ℕ, Bool, true, false, not, ◌==◌, ◌&&◌, nat_le, if◌then◌else◌, List, [], ◌∷◌, find, Option, Some, None}
-use Rattle.std.specs.Str.{bytes_eq}
 use Rattle.std.specs.Ordering.{match_ordering, nat_cmp, ordering_then}
 use Rattle.std.specs.Cmp.Lexicographic.{slice_cmp}
 use Rattle.std.specs.List.Sorted.{IsStrictlySortedBy}
 use Rattle.std.specs.declared.cmp.Ordering.{Ordering}
-use Rattle.aip_addr.specs.Ids.{is_owner}
+use Rattle.aip_addr.specs.Ids.{is_owner, is_same_id}
 use Rattle.aip_addr.specs.declared.ids.Id.{Id}
 use Rattle.lms_core.specs.Verify.{is_valid_signature}
 use Rattle.aip_registry.specs.Record.{kind_byte, is_record, fields_in, key_in, signature_in, record_text_of}
@@ -31,7 +30,7 @@ is_genuine bytes = is_record bytes && (has_key bytes && has_signature bytes)
 -- whether a record is of this kind, by this AD, on this other
 abbrev pub is_about : RecordKind → Id → Id → Record → Bool
 is_about kind ad other r =
-    (kind_byte kind == kind_byte r.kind) && (bytes_eq ad.bytes r.ad.bytes && bytes_eq other.bytes r.other.bytes)
+    (kind_byte kind == kind_byte r.kind) && (is_same_id ad r.ad && is_same_id other r.other)
 
 -- of a record and an earlier one, the one with the greater number, and the earlier where they are equal
 abbrev pub newer_of : Record → Option Record → Option Record

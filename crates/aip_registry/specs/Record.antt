@@ -1,5 +1,5 @@
 -- Records: what they say, the text that they sign, and their bytes.
-use Rattle.std.specs.Prelude.{◌≡◌, ◌<◌, ◌^◌, ℕ, zero, suc, Bool, ◌==◌, ◌&&◌, nat_le, true, List, ◌∷◌, ◌++◌, length, take, drop, slice_index, codes, Option, Some, None, if◌then◌else◌}
+use Rattle.std.specs.Prelude.{◌≡◌, ◌<◌, ◌^◌, ℕ, zero, suc, Bool, ◌==◌, ◌&&◌, nat_le, true, List, [], ◌∷◌, ◌++◌, length, take, drop, slice_index, codes, Option, Some, None, if◌then◌else◌}
 use Rattle.byteorder.specs.Endian.{big_bytes, big_number}
 use Rattle.aip_addr.specs.declared.ids.Id.{Id}
 use Rattle.aip_registry.specs.declared.records.RecordKind.{RecordKind}
@@ -7,6 +7,15 @@ use Rattle.aip_registry.specs.declared.records.RecordKind.TheVariants.{Peer, Bin
 use Rattle.aip_registry.specs.declared.records.Record.{Record}
 
 -- ---- spelling
+
+-- the kinds of records
+abbrev pub all_kinds : List RecordKind
+all_kinds = Peer ∷ Bind ∷ []
+
+-- the word of a kind in a text
+abbrev pub record_word : RecordKind → List ℕ
+record_word Peer = codes "peer"
+record_word Bind = codes "bind"
 
 -- the byte of a kind
 abbrev pub kind_byte : RecordKind → ℕ

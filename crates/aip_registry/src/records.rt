@@ -1,8 +1,9 @@
 // The bytes of records, and of the text that a record signs.
 ghost use Rattle.std.specs.Prelude.{◌≡◌, ◌↔◌, ◌≤◌, ◌+◌, ◌++◌, ℕ, List, length, take, drop, IfOk, IfSome, IfNone, None};
 ghost use Rattle.byteorder.specs.Endian.{big_bytes};
+ghost use Rattle.aip_text.specs.Fields.{named};
 ghost use Rattle.aip_registry.specs.declared.records.Record.{Record as Fields};
-ghost use Rattle.aip_registry.specs.Record.{RecordFits, IsRecord, ReadsBack, fields_bytes, fields_in, is_record, key_in, kind_at, kind_byte, record_in, record_of, record_text_of, signer_in, signature_in};
+ghost use Rattle.aip_registry.specs.Record.{RecordFits, IsRecord, ReadsBack, fields_bytes, fields_in, is_record, key_in, all_kinds, kind_at, kind_byte, record_in, record_of, record_text_of, record_word, signer_in, signature_in};
 ghost use Rattle.aip_registry.specs.Kept.{publication};
 ghost use Rattle.aip_registry.specs.declared.published.Published.TheVariants as published;
 
@@ -21,6 +22,27 @@ pub enum RecordKind {
     Peer,
     /// A host belongs to the signer.
     Bind,
+}
+
+const KINDS: [RecordKind; 2] = [RecordKind::Peer, RecordKind::Bind];
+
+impl RecordKind {
+    /// The word of the kind in a text: `peer` or `bind`.
+    pub fn word(self) -> &'static [u8]
+        ensures { result.now ≡ record_word self }
+    {
+        match self {
+            RecordKind::Peer => b"peer",
+            RecordKind::Bind => b"bind",
+        }
+    }
+
+    /// The kind that has the word, if one has.
+    pub fn named(word: &[u8]) -> Option<RecordKind>
+        ensures { result ≡ named record_word all_kinds word.now }
+    {
+        KINDS.iter().copied().find(|&kind| kind.word() == word)
+    }
 }
 
 /// What a record says.

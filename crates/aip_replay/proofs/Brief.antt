@@ -18,7 +18,7 @@ use Rattle.shutoff_filter.specs.Body.{order_in, shutoff_of, text_tail}
 use Rattle.aip_rules.specs.Host.{shutoff_frame}
 use Rattle.aip_rules.specs.Router.{one_hop_less}
 use Rattle.aip_rules.specs.Standing.{Standing}
-use Rattle.aip_rules.proofs.Signed.{most_signature}
+use Rattle.lms_core.specs.Parameters.{most_signature}
 use Rattle.aip_rules.proofs.Sizes.{HasSizedAddress}
 use Rattle.aip_replay.proofs.Short.{IsBrief}
 

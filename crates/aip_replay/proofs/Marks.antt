@@ -103,10 +103,6 @@ taken_of (Happened event ∷ tr) = taken_of tr
 pub at_input : (input : Input) → IsInput input → inputs_at (entry_mark (Taken input)) ≡ Some (input ∷ [])
 at_input input formed = ap one_input (input_again input formed)
 
--- that of an event has none
-pub at_event : (event : Event) → inputs_at (event_mark event) ≡ Some []
-at_event event = refl
-
 -- lines of events have none
 pub on_events : (events : List Event) → inputs_on (map event_mark events) ≡ Some []
 on_events [] = refl

@@ -34,7 +34,8 @@ use Rattle.aip_rules.specs.declared.Reaction.{Reaction}
 use Rattle.aip_rules.specs.Reaction.{dropped, happens, nothing, puts}
 use Rattle.aip_rules.specs.Standing.{Standing}
 use Rattle.aip_rules.specs.Host.{withheld_key, handed_to, handed_down, put_by, Signing, Dry, signing_with, signing, signed, answer_frame, shutoff_frame, shut_by, answered, challenged, hearing, outlasts, obeyed_by, heard_by, kind_at_host, taken_at_host, at_host, kept_events, back_up}
-use Rattle.aip_rules.proofs.Signed.{most_signature, signature_short}
+use Rattle.lms_core.specs.Parameters.{most_signature}
+use Rattle.aip_rules.proofs.Signed.{signature_short}
 use Rattle.aip_rules.proofs.Sizes.{HasSizedAddress}
 use Rattle.aip_rules.proofs.SilentOrders.{good_shut_off}
 use Rattle.aip_replay.proofs.Brief.{AreBrief, brief_other, brief_shut}

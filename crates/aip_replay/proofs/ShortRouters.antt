@@ -2,7 +2,7 @@
 use Rattle.std.proofs.Common.{◌≡◌, ℕ, ◌&&◌, Bool, true, false, cond, not, List, length, Option, Some, None, refl, arith, lit<}
 use Rattle.std.specs.Prelude.{IfSome, nat_le, nat_lt}
 use Rattle.std.proofs.lemmas.Bool.{cond_both, leb-false}
-use Rattle.aip_addr.specs.Ids.{is_owner, is_same_address}
+use Rattle.aip_addr.specs.Ids.{is_owner, is_same_address, is_same_id}
 use Rattle.aip_addr.specs.declared.ids.Address.{Address}
 use Rattle.aip_frame.specs.declared.frame.Frame.{Frame}
 use Rattle.aip_frame.specs.Frame.{Fits, IsFrame, frame_of}
@@ -14,7 +14,6 @@ use Rattle.aip_event.specs.declared.event.Reason.{Reason}
 use Rattle.aip_event.specs.declared.event.Reason.TheVariants as reason
 use Rattle.aip_topo.specs.Sound.{IsSound}
 use Rattle.aip_topo.specs.declared.topology.Topology.{Topology}
-use Rattle.accept_cache.specs.Keys.{same_id}
 use Rattle.first_hop.specs.declared.HostVerdict.{HostVerdict}
 use Rattle.first_hop.specs.declared.HostVerdict.TheVariants as host
 use Rattle.first_hop.specs.Verdict.{host_verdict}
@@ -68,7 +67,7 @@ border_low back border.Ask low = low
 verdict_low : (topo : Topology) (kept : List Record) (now : ℕ) (at : Arrival) (found : Option Neighbour) (source : SourceKnown) → IsLow at.port → IfSome source.back IsLow
     → IsLowVerdict (verdict_by topo kept now at found source)
 verdict_low topo kept now at None source port low = low
-verdict_low topo kept now at (Some (neighbour.Host name)) source port low = host_low at.port (host_verdict (not (same_id source.address.ad at.self.address.ad)) source.fresh) port
+verdict_low topo kept now at (Some (neighbour.Host name)) source port low = host_low at.port (host_verdict (not (is_same_id source.address.ad at.self.address.ad)) source.fresh) port
 verdict_low topo kept now at (Some (neighbour.Link other far marked)) source port low =
     border_low source.back (port_verdict (trusts topo kept now at.self other marked) (leads_back source.back at.port) source.fresh source.wild) low
 

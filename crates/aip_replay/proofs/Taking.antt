@@ -27,12 +27,6 @@ none_due [] (suc seen) le = refl
 none_due (event ∷ due) zero le = absurd (omega arith)
 none_due (event ∷ due) (suc seen) le = none_due due seen (omega arith)
 
--- the line of an event has its mark
-pub marked_long : (event : Event) (line : List ℕ) → bytes_eq (event_mark event) line ≡ true → 2 ≤ length line
-marked_long event line same =
-    let long : length (event_mark event) ≡ length line = ap length ((bytes_decides (event_mark event) line).0 same) in
-    omega (arith, length-append (codes "< ") (event_line event))
-
 module _ (topo : Topology) (sound : IsSound topo) (core : Kept) (all due : List Event) (seen number : ℕ) (file left line : List ℕ) (event : Event) (same : all ≡ due) (less : seen < length due) (is : event ≡ get_or all seen event) where
   -- the event that is due next stands first among those that are due
   first_due : drop seen due ≡ event ∷ drop (seen + 1) due

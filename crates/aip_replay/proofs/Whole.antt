@@ -60,11 +60,6 @@ on_end (Some told) before after most line number judge g end which gives right =
     let none = subst (λ (x : Got). Gives x most (before told) line (after told)) which gives in
     inr (right topo file sound (subst (λ (left : List ℕ). JudgesAt topo judge number file left) none.0 came))
 
--- no more could be read
-pub on_cut : (t : Option (List ℕ)) (before after : List ℕ → List ℕ) (number : ℕ) (judge : Judge) (end : ReplayEnd) → IsUnread end → LeadsTo t before after number judge (Ends end)
-on_cut None before after number judge end unread = tt
-on_cut (Some told) before after number judge end unread = λ topo file sound came. inl unread
-
 -- ## The loop
 
 none_left : (n : ℕ) (due : List Event) → due ≡ [] → drop n due ≡ []
@@ -98,15 +93,6 @@ went_on None now first judge next number before after same came leads = tt
 went_on (Some told) now first judge next number before after same came leads = λ topo sound stands none.
     subst (λ (o : Option (List ℕ)). LeadsTo o before after number judge (Goes next)) same leads topo told sound (came topo sound stands none)
 
--- a line that ends the replay ends it rightly
-pub came_to : (t now : Option (List ℕ)) (first judge : Judge) (end : ReplayEnd) (number : ℕ) (before after : List ℕ → List ℕ) → now ≡ t
-    → IfSome t (λ told. (topo : Topology) → IsSound topo → StandsFor topo [] first.core → first.due ≡ [] → JudgesAt topo judge number told (before told))
-    → LeadsTo now before after number judge (Ends end)
-    → IfSome t (λ told. (topo : Topology) → IsSound topo → StandsFor topo [] first.core → first.due ≡ [] → IsUnread end ⊎ IsRight topo told end)
-came_to None now first judge end number before after same came leads = tt
-came_to (Some told) now first judge end number before after same came leads = λ topo sound stands none.
-    subst (λ (o : Option (List ℕ)). LeadsTo o before after number judge (Ends end)) same leads topo told sound (came topo sound stands none)
-
 -- ## The whole
 
 -- a judge at its start over what a text gives
@@ -116,69 +102,4 @@ opened_at None topo judge given sound stands none = tt
 opened_at (Some text) topo judge given sound stands none =
     record { topo = topo; given = given; sound = sound; stands = stands; none = none }
 
-answered : (told file : List ℕ) (topo : Topology) (end : ReplayEnd) → topology_of told ≡ Ok topo → IsUnread end ⊎ IsRight topo file end → Answers told file end
-answered told file topo end given (inl unread) = inl unread
-answered told file topo end given (inr right) = inr (inr (record { topo = topo; given = given; right = right }))
-
--- what was played is answered rightly
-pub played : (t s mid : Option (List ℕ)) (judge : Judge) (end : ReplayEnd) → mid ≡ s → IfSome t (λ told. IsOpened told judge)
-    → IfSome mid (λ file. (topo : Topology) → IsSound topo → StandsFor topo [] judge.core → judge.due ≡ [] → IsUnread end ⊎ IsRight topo file end)
-    → IfSome t (λ told. IfSome s (λ file. Answers told file end))
-played None s mid judge end same opened right = tt
-played (Some told) None mid judge end same opened right = tt
-played (Some told) (Some file) mid judge end same opened right =
-    let all = subst (λ (o : Option (List ℕ)). IfSome o (λ file. (topo : Topology) → IsSound topo → StandsFor topo [] judge.core → judge.due ≡ [] → IsUnread end ⊎ IsRight topo file end)) same right in
-    answered told file opened.topo end opened.given (all opened.topo opened.sound opened.stands opened.none)
-
--- a replay that was never opened
-pub unopened : (t s : Option (List ℕ)) (end : ReplayEnd) → IfSome t (λ told. IsUnopened told end) → IfSome t (λ told. IfSome s (λ file. Answers told file end))
-unopened None s end h = tt
-unopened (Some told) None end h = tt
-unopened (Some told) (Some file) end (inl unread) = inl unread
-unopened (Some told) (Some file) end (inr by) = inr (inl by)
-
 -- ## The topology
-
--- a topology that was opened ends no replay by itself
-ends_none : (r : Result Topology RefusedLine) (topo : Topology) → r ≡ Ok topo → end_over r ≡ None
-ends_none r topo given = ap end_over given
-
-pub judges_opened : (t : Option (List ℕ)) (judge : Judge) (unread : Type 0) (end : ReplayEnd) → IfSome t (λ told. IsOpened told judge) → is_topology_refused end ≡ false
-    → IfSome t (λ told. JudgesReplay told unread end)
-judges_opened None judge unread end opened passed = tt
-judges_opened (Some told) judge unread end opened passed = record {
-  comes = subst (λ o. IfSome o (λ expected. IsOrUnread replay_end.Memory replay_end.ReadFault expected unread end)) (sym (ends_none (topology_of told) opened.topo opened.given)) tt;
-  only = λ refused. absurd (true≢false (sym refused ∙ passed));
-}
-
-cut_or : (end expected : ReplayEnd) (unread : Type 0) → IsUnread end → (end ≡ replay_end.ReadFault → unread) → IsOrUnread replay_end.Memory replay_end.ReadFault expected unread end
-cut_or replay_end.ReadFault expected unread cut rose = inr (inr (refl, rose refl))
-cut_or replay_end.Memory expected unread cut rose = inr (inl refl)
-cut_or replay_end.Holds expected unread cut rose = absurd cut
-cut_or (replay_end.Wrong line) expected unread cut rose = absurd cut
-cut_or (replay_end.Topology line f) expected unread cut rose = absurd cut
-
--- what couldn't be read isn't refused
-not_both : (end : ReplayEnd) → IsUnread end → is_topology_refused end ≡ true → ⊥
-not_both replay_end.ReadFault cut is = cc
-not_both replay_end.Memory cut is = cc
-not_both replay_end.Holds cut is = cut
-not_both (replay_end.Wrong line) cut is = cut
-not_both (replay_end.Topology line f) cut is = cut
-
--- how the topology text decides a replay that was never opened
-pub judges_unopened : (t : Option (List ℕ)) (unread : Type 0) (end : ReplayEnd) → (end ≡ replay_end.ReadFault → unread) → IfSome t (λ told. IsUnopened told end)
-    → IfSome t (λ told. JudgesReplay told unread end)
-judges_unopened None unread end rose h = tt
-judges_unopened (Some told) unread end rose (inl cut) = record {
-  comes = each (end_by told);
-  only = λ is. absurd (not_both end cut is);
-}
-  where
-    each : (o : Option ReplayEnd) → IfSome o (λ expected. IsOrUnread replay_end.Memory replay_end.ReadFault expected unread end)
-    each None = tt
-    each (Some expected) = cut_or end expected unread cut rose
-judges_unopened (Some told) unread end rose (inr by) = record {
-  comes = subst (λ o. IfSome o (λ expected. IsOrUnread replay_end.Memory replay_end.ReadFault expected unread end)) (sym by) (inl refl);
-  only = λ is. by;
-}

@@ -10,7 +10,7 @@ use Rattle.aip_addr.specs.declared.ids.Address.{Address}
 use Rattle.aip_frame.specs.declared.frame.Kind.{Kind}
 use Rattle.aip_frame.specs.declared.frame.Kind.TheVariants.{Data, Challenge, Response, ShutOff}
 use Rattle.aip_event.specs.declared.event.Cause.{Cause}
-use Rattle.accept_cache.specs.Keys.{same_id}
+use Rattle.aip_addr.specs.Ids.{is_same_id, is_same_address}
 use Rattle.first_hop.specs.Verdict.{host_verdict}
 use Rattle.border_check.specs.Verdict.{port_verdict, leads_back}
 use Rattle.aip_registry.specs.declared.records.Record.{Record}
@@ -21,7 +21,6 @@ use Rattle.aip_rules.specs.declared.Neighbour.{Neighbour}
 use Rattle.aip_rules.specs.declared.Neighbour.TheVariants as neighbour
 use Rattle.aip_rules.specs.declared.Reaction.{Reaction}
 use Rattle.aip_rules.specs.declared.Verdict.TheVariants.{Forwards}
-use Rattle.aip_addr.specs.Ids.{is_same_address}
 use Rattle.aip_rules.specs.Nodes.{place_of_router}
 use Rattle.aip_rules.specs.Records.{trusts}
 use Rattle.aip_rules.specs.Router.{Arrival, SourceKnown, of_host, of_border, verdict_by, is_challenge, is_response}
@@ -71,7 +70,7 @@ pub reasoned : (topo : Topology) (kept : List Record) (now : ℕ) (at : Arrival)
     → verdict_by topo kept now at there source ≡ Forwards why → Reasons topo kept now at.self there at.port source
 reasoned topo kept now at None source why e = absurd cc
 reasoned topo kept now at (Some (neighbour.Host name)) source why e =
-    at_host_port topo kept now at name source (not (same_id source.address.ad at.self.address.ad)) source.fresh why (λ f. f) e
+    at_host_port topo kept now at name source (not (is_same_id source.address.ad at.self.address.ad)) source.fresh why (λ f. f) e
 reasoned topo kept now at (Some (neighbour.Link other far marked)) source why e =
     at_link_port topo kept now at other far marked source (trusts topo kept now at.self other marked) (leads_back source.back at.port) source.fresh source.wild why
     (λ t. t) (led_back source.back at.port) (λ f. f) (λ w. w) e

@@ -9,7 +9,8 @@ use Rattle.std.specs.Set.{is_member, unique_keys, distinct_count}
 use Rattle.aip_addr.specs.declared.ids.Id.{Id}
 use Rattle.aip_addr.specs.declared.ids.Address.{Address}
 use Rattle.accept_cache.specs.declared.keys.Pair.{Pair}
-use Rattle.accept_cache.specs.Keys.{same_id, same_pair, wildcard_of, is_of}
+use Rattle.aip_addr.specs.Ids.{is_same_id}
+use Rattle.accept_cache.specs.Keys.{same_pair, wildcard_of, is_of}
 use Rattle.accept_cache.proofs.KeyLemmas.{same_pair_decides}
 use Rattle.aip_topo.specs.declared.topology.Router.{Router}
 use Rattle.aip_topo.specs.declared.topology.Topology.{Topology}
@@ -18,16 +19,16 @@ use Rattle.aip_rules.specs.State.{now_of}
 use Rattle.aip_rules.specs.Promises.{Answered, AllDiffer, ManyAnswered}
 
 -- ids of the same bytes are one
-same_ids : (a b : Id) → same_id a b ≡ true → a ≡ b
+same_ids : (a b : Id) → is_same_id a b ≡ true → a ≡ b
 same_ids a b t = let bytes = (bytes_decides a.bytes b.bytes).0 t in λ i. record { bytes = bytes i }
 
 -- a pair of a wildcard has its domain
 of_domain : (ad : Id) (port : ℕ) (pair : Pair) → is_of (wildcard_of ad port) pair ≡ true → pair.source.ad ≡ ad
-of_domain ad port pair t = same_ids pair.source.ad ad (first_so (same_id pair.source.ad ad) (pair.port == port) t)
+of_domain ad port pair t = same_ids pair.source.ad ad (first_so (is_same_id pair.source.ad ad) (pair.port == port) t)
 
 -- and its port
 of_port : (ad : Id) (port : ℕ) (pair : Pair) → is_of (wildcard_of ad port) pair ≡ true → pair.port ≡ port
-of_port ad port pair t = (unsigned_Decides pair.port port).0 (second_so (same_id pair.source.ad ad) (pair.port == port) t)
+of_port ad port pair t = (unsigned_Decides pair.port port).0 (second_so (is_same_id pair.source.ad ad) (pair.port == port) t)
 
 -- what holds of each pair holds of each once
 all_once : (P : Pair → Type 0) (pairs : List Pair) → AllByRecursion P pairs → AllByRecursion P (unique_keys same_pair pairs)

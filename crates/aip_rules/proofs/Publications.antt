@@ -41,7 +41,3 @@ still_published (event ∷ events) tr = still_published events (Happened event �
 -- what was published after a step is what its input publishes, and what was published before
 pub published_after : (tr : List Entry) (input : Input) (events : List Event) → published_on (after_step tr input events) ≡ published_by input ++ published_on tr
 published_after tr input events = still_published events (Taken input ∷ tr)
-
--- the records that are kept after a publication
-pub kept_after : (tr : List Entry) (bytes : List ℕ) (events : List Event) → records_kept (after_step tr (Publish bytes) events) ≡ after (records_kept tr) bytes
-kept_after tr bytes events = ap kept_records (published_after tr (Publish bytes) events)

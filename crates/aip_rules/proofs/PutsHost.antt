@@ -23,7 +23,8 @@ use Rattle.aip_rules.specs.Reaction.{dropped, happens}
 use Rattle.aip_rules.specs.Standing.{Standing}
 use Rattle.aip_rules.specs.Host.{withheld_key, handed_to, handed_down, put_by, Signing, Dry, Stops, Signs, signing, signed, answer_frame, shutoff_frame, shut_by, answered, challenged, hearing, outlasts, obeyed_by, heard_by, kind_at_host, taken_at_host, at_host, kept_events, back_up}
 use Rattle.aip_rules.proofs.Sizes.{HasSizedAddress}
-use Rattle.aip_rules.proofs.Signed.{most_signature, signature_short, answer_short, shutoff_short}
+use Rattle.lms_core.specs.Parameters.{most_signature}
+use Rattle.aip_rules.proofs.Signed.{signature_short, answer_short, shutoff_short}
 use Rattle.aip_rules.proofs.Modest.{AreCalm, IsModest, happens_modest, dropped_modest, puts_modest, behind_modest, either}
 
 handed_to_modest : (s : Standing) (bytes : List ℕ) (for : Option KeyId) → length bytes ≤ 9216 → IsModest (handed_to s bytes for)

@@ -11,7 +11,7 @@ use Rattle.lmots_core.specs.declared.parameters.Width.{Width}
 use Rattle.lmots_core.specs.declared.parameters.Width.TheVariants.{W1, W2, W4, W8}
 use Rattle.lms_core.specs.declared.height.Height.{Height}
 use Rattle.lms_core.specs.declared.height.Height.TheVariants.{H5, H10}
-use Rattle.lms_core.specs.Parameters.{signature_len_of}
+use Rattle.lms_core.specs.Parameters.{signature_len_of, most_signature}
 use Rattle.lms_core.specs.Tree.{Key, public_key_of, signature_of}
 use Rattle.lms_core.proofs.Accepted.{length-public_key_of, length-signature_of}
 use Rattle.verify_packet.specs.Challenge.{Asked, asked_bytes, asked_in, challenge_of, tag_of, epoch_at}
@@ -21,10 +21,6 @@ use Rattle.aip_rules.specs.Standing.{Standing}
 use Rattle.aip_rules.specs.Host.{answer_frame, shutoff_frame}
 use Rattle.aip_rules.specs.Router.{challenge_frame}
 use Rattle.aip_rules.proofs.Sizes.{IsSizedAddress, HasSizedAddress, fitting_short}
-
--- the most bytes of a signature
-abbrev pub most_signature : ℕ
-most_signature = 8844
 
 length-signature-le : (width : Width) (height : Height) → signature_len_of width height ≤ most_signature
 length-signature-le W1 H5 = lit≤ tt

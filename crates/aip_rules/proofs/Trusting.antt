@@ -5,7 +5,8 @@ use Rattle.std.specs.Cmp.Lexicographic.{bytes_decides}
 use Rattle.std.specs.List.{AllByRecursion}
 use Rattle.std.specs.Prelude.{All, option_map, slice_get}
 use Rattle.std.specs.Str.{bytes_eq}
-use Rattle.accept_cache.specs.Keys.{same_id, pair_of, wildcard_of}
+use Rattle.aip_addr.specs.Ids.{is_same_id}
+use Rattle.accept_cache.specs.Keys.{pair_of, wildcard_of}
 use Rattle.accept_cache.specs.Accepted.{is_fresh_pair, is_fresh_wildcard}
 use Rattle.aip_addr.specs.declared.ids.Id.{Id}
 use Rattle.aip_addr.specs.declared.ids.Address.{Address}
@@ -83,12 +84,12 @@ module _ (topo : Topology) (sound : IsSound topo) (place other : ℕ) (self neig
       let e : Some self.address.ad ≡ Some neighbour.address.ad = sym mine ∙ (ap (λ d. ad_at d topo.domains) (sym same) ∙ its) in
       cc
 
-same_id_so : (a b : Id) → same_id a b ≡ true → a ≡ b
+same_id_so : (a b : Id) → is_same_id a b ≡ true → a ≡ b
 same_id_so a b e =
     let bytes = (bytes_decides a.bytes b.bytes).0 e in
     λ i. record { bytes = bytes i }
 
-id_so_same : (a b : Id) → a ≡ b → same_id a b ≡ true
+id_so_same : (a b : Id) → a ≡ b → is_same_id a b ≡ true
 id_so_same a b e = (bytes_decides a.bytes b.bytes).1 (ap (λ (id : Id). id.bytes) e)
 
 -- ---- records in force
@@ -155,20 +156,20 @@ record IsTrusting (kept : List Record) (now : ℕ) (own other : Id) (marked : Bo
 
 trusting_so : (kept : List Record) (now : ℕ) (own other : Id) (marked : Bool) → trusts_domain kept now own other marked ≡ true → IsTrusting kept now own other marked
 trusting_so kept now own other marked e =
-    let parts = and_parts marked (same_id own other || is_ahead now (peered_until kept own other)) e in
-    record { is_marked = parts.0; known = by (same_id own other) refl parts.1 }
+    let parts = and_parts marked (is_same_id own other || is_ahead now (peered_until kept own other)) e in
+    record { is_marked = parts.0; known = by (is_same_id own other) refl parts.1 }
   where
-    by : (same : Bool) → same_id own other ≡ same → same || is_ahead now (peered_until kept own other) ≡ true
+    by : (same : Bool) → is_same_id own other ≡ same → same || is_ahead now (peered_until kept own other) ≡ true
         → (own ≡ other) ⊎ (is_ahead now (peered_until kept own other) ≡ true)
     by true same t = inl (same_id_so own other same)
     by false same t = inr t
 
 so_trusting : (kept : List Record) (now : ℕ) (own other : Id) (marked : Bool) → IsTrusting kept now own other marked → trusts_domain kept now own other marked ≡ true
-so_trusting kept now own other marked is = and_from marked (same_id own other || is_ahead now (peered_until kept own other)) is.is_marked (by is.known)
+so_trusting kept now own other marked is = and_from marked (is_same_id own other || is_ahead now (peered_until kept own other)) is.is_marked (by is.known)
   where
-    by : (own ≡ other) ⊎ (is_ahead now (peered_until kept own other) ≡ true) → (same_id own other || is_ahead now (peered_until kept own other)) ≡ true
-    by (inl same) = or_left (same_id own other) (is_ahead now (peered_until kept own other)) (id_so_same own other same)
-    by (inr ahead) = or_right (same_id own other) (is_ahead now (peered_until kept own other)) ahead
+    by : (own ≡ other) ⊎ (is_ahead now (peered_until kept own other) ≡ true) → (is_same_id own other || is_ahead now (peered_until kept own other)) ≡ true
+    by (inl same) = or_left (is_same_id own other) (is_ahead now (peered_until kept own other)) (id_so_same own other same)
+    by (inr ahead) = or_right (is_same_id own other) (is_ahead now (peered_until kept own other)) ahead
 
 -- a neighbour that is trusted stands over a marked end, and is of the router's domain, or of one that this holds for its peer
 pub trusted_end : (topo : Topology) → IsSound topo → (tr : List Entry) (place : ℕ) (self : Router) → slice_get topo.routers place ≡ Some self → (other : ℕ) (marked : Bool)

@@ -18,7 +18,7 @@ use Rattle.verify_packet.specs.Response.{response_of, response_text_of}
 use Rattle.shutoff_filter.specs.Body.{order_in, shutoff_of, shutoff_text_of}
 use Rattle.shutoff_filter.specs.Entries.{is_key, is_withheld}
 use Rattle.shutoff_filter.specs.Judged.{shutoff_verdict, refusal_number}
-use Rattle.shutoff_filter.specs.declared.entries.ShutOffEntry.{ShutOffEntry as ShutOffEntry}
+use Rattle.shutoff_filter.specs.declared.entries.ShutOffEntry.{ShutOffEntry}
 use Rattle.shutoff_filter.specs.declared.judging.Heard.{Heard}
 use Rattle.shutoff_filter.specs.declared.judging.Heard.TheVariants as heard
 use Rattle.aip_rules.specs.declared.Arming.{Arming}

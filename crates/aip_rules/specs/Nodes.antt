@@ -4,7 +4,7 @@
 use Rattle.std.specs.Prelude.{ℕ, ◌+◌, ◌==◌, Bool, true, false, if◌then◌else◌, List, [], ◌∷◌, ◌++◌, find, position, slice_get, Option, Some, None}
 use Rattle.std.specs.Str.{bytes_eq}
 use Rattle.aip_addr.specs.declared.ids.Id.{Id}
-use Rattle.aip_addr.specs.Ids.{is_same_address}
+use Rattle.aip_addr.specs.Ids.{is_same_address, is_same_id}
 use Rattle.aip_addr.specs.declared.ids.Address.{Address}
 use Rattle.aip_event.specs.declared.input.Target.{Target}
 use Rattle.aip_event.specs.declared.input.Target.TheVariants as target
@@ -116,7 +116,7 @@ router_with_address routers address = position (λ router. is_same_address route
 
 -- the place of the domain with this id
 abbrev pub domain_with_ad : List Domain → Id → Option ℕ
-domain_with_ad domains ad = position (λ domain. bytes_eq domain.ad.bytes ad.bytes) domains
+domain_with_ad domains ad = position (λ domain. is_same_id domain.ad ad) domains
 
 -- the address of a host, or else of a router
 abbrev pub address_of_node : Option Seat → Option Router → Option Address

@@ -8,7 +8,7 @@ use Rattle.aip_event.specs.declared.event.Event.{Event}
 use Rattle.aip_event.specs.declared.event.Event.TheVariants as event
 use Rattle.aip_topo.specs.declared.topology.Router.{Router}
 use Rattle.aip_topo.specs.declared.topology.Topology.{Topology}
-use Rattle.accept_cache.specs.Keys.{same_id}
+use Rattle.aip_addr.specs.Ids.{is_same_id}
 use Rattle.aip_registry.specs.declared.published.Published.{Published}
 use Rattle.aip_registry.specs.declared.published.Published.TheVariants as said
 use Rattle.aip_registry.specs.declared.records.Record.{Record}
@@ -71,7 +71,7 @@ peered_until kept own other = option_map (λ r. r.until) (kept_on Peer own other
 -- a router of one domain trusts a neighbour of another over a link's end: the end is marked, and the two domains are the
 -- same, or a peering record of the router's domain for the neighbour's is kept and in force
 abbrev pub trusts_domain : List Record → (now : ℕ) → (own other : Id) → (marked : Bool) → Bool
-trusts_domain kept now own other marked = marked && (same_id own other || is_ahead now (peered_until kept own other))
+trusts_domain kept now own other marked = marked && (is_same_id own other || is_ahead now (peered_until kept own other))
 
 -- a router of a domain trusts its neighbour over a link's end, if there is one
 abbrev pub trusts_router : List Record → (now : ℕ) → (own : Id) → Option Router → (marked : Bool) → Bool

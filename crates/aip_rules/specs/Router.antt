@@ -11,7 +11,8 @@ use Rattle.aip_event.specs.declared.event.Cause.TheVariants as cause
 use Rattle.aip_event.specs.declared.event.Reason.TheVariants as reason
 use Rattle.aip_topo.specs.declared.topology.Router.{Router}
 use Rattle.aip_topo.specs.declared.topology.Topology.{Topology}
-use Rattle.accept_cache.specs.Keys.{pair_of, wildcard_of, same_id}
+use Rattle.aip_addr.specs.Ids.{is_same_id, is_same_address}
+use Rattle.accept_cache.specs.Keys.{pair_of, wildcard_of}
 use Rattle.accept_cache.specs.Accepted.{is_fresh_pair, is_fresh_wildcard, promotes}
 use Rattle.first_hop.specs.declared.HostVerdict.{HostVerdict}
 use Rattle.first_hop.specs.declared.HostVerdict.TheVariants as host
@@ -33,7 +34,6 @@ use Rattle.aip_rules.specs.declared.Reaction.{Reaction}
 use Rattle.aip_rules.specs.declared.Verdict.{Verdict}
 use Rattle.aip_rules.specs.declared.Verdict.TheVariants.{Forwards, Foreign, Asks}
 use Rattle.aip_rules.specs.State.{now_of, restarts_of}
-use Rattle.aip_addr.specs.Ids.{is_same_address}
 use Rattle.aip_rules.specs.Nodes.{neighbours_of, neighbour_at, target_at}
 use Rattle.aip_rules.specs.Routes.{port_to}
 use Rattle.aip_rules.specs.Accepted.{limits_of, pair_uses, wildcard_uses}
@@ -120,7 +120,7 @@ pub record SourceKnown : Type 0 where
 abbrev pub verdict_by : Topology → List Record → (now : ℕ) → Arrival → Option Neighbour → SourceKnown → Verdict
 verdict_by topo kept now at None source = Asks source.back
 verdict_by topo kept now at (Some (neighbour.Host name)) source =
-    of_host at.port (host_verdict (not (same_id source.address.ad at.self.address.ad)) source.fresh)
+    of_host at.port (host_verdict (not (is_same_id source.address.ad at.self.address.ad)) source.fresh)
 verdict_by topo kept now at (Some (neighbour.Link other far marked)) source =
     of_border source.back (port_verdict (trusts topo kept now at.self other marked) (leads_back source.back at.port) source.fresh source.wild)
 

@@ -80,9 +80,9 @@ pub enum Neighbour {
 pub enum Verdict {
     /// It forwards it, for this cause.
     Forwards(Cause),
-    /// The source is of another domain than the host's port that it came at.
+    /// The frame came at a host's port, and its source is of another domain than the router.
     Foreign,
-    /// It asks the source, by this port.
+    /// It asks the source by this port; where there is none, the frame is dropped, as `noback`.
     Asks(Option<u16>),
 }
 

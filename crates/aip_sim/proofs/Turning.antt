@@ -57,9 +57,6 @@ record Begins (first whole : List ℕ) : Type 0 where
   more : List ℕ
   joined : whole ≡ first ++ more
 
-begins_same : (text : List ℕ) → Begins text text
-begins_same text = record { more = []; joined = sym (append-nil text) }
-
 -- the text of a run that ends at a trace begins with the text of the trace
 ends_at : (tr : List Entry) (ending : Ending) → Begins (text_of tr) (text_of_run (record { trace = tr; ending = ending }))
 ends_at tr ending = record { more = ending_text ending; joined = refl }

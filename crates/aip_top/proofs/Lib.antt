@@ -3,4 +3,3 @@ pub mod Leases
 pub mod Promised
 pub mod RecordLists
 pub mod Recorded
-pub mod Summing

@@ -1,6 +1,5 @@
 -- What comes of a lease: by the topology, and by the disk.
 use Rattle.std.specs.Prelude.{◌≡◌, ℕ, ◌+◌, ◌≤◌, ⊤, max, List, [], ◌∷◌, ◌++◌, codes, decimal, find, length, take, option_map, if◌then◌else◌, Option, Some, None, IfSome, Result, Ok, Err}
-use Rattle.std.specs.Str.{bytes_eq}
 use Rattle.std.specs.Option.{ForSome}
 use Rattle.hex.specs.Hex.{encode_lower}
 use Rattle.lms_core.specs.Tree.{Key, identifier_of}
@@ -15,6 +14,7 @@ use Rattle.aip_topo.specs.declared.topology.Key as topo
 use Rattle.aip_topo.specs.declared.topology.Key.TheVariants as key
 use Rattle.aip_topo.specs.declared.topology.Topology.{Topology}
 use Rattle.aip_topo.specs.Reading.{RefusedLine, topology_of}
+use Rattle.aip_topo.specs.Steps.{names_domain}
 use Rattle.aip_top.specs.Words.{Leased}
 use Rattle.aip_top.specs.declared.status.Status.{Status}
 use Rattle.aip_top.specs.declared.status.Status.TheVariants as status
@@ -35,9 +35,13 @@ abbrev pub asked_of_domain : Option Domain → Asked
 asked_of_domain None = Refused (status.Lease fault.Unknown)
 asked_of_domain (Some domain) = asked_of_key domain.key
 
+-- the domain of a name
+abbrev pub domain_named : List ℕ → List Domain → Option Domain
+domain_named name domains = find (names_domain name) domains
+
 -- a lease for the domain of a name in a topology
 abbrev pub asked_in : Topology → List ℕ → Asked
-asked_in t name = asked_of_domain (find (λ (domain : Domain). bytes_eq domain.name name) t.domains)
+asked_in t name = asked_of_domain (domain_named name t.domains)
 
 -- a lease for the domain of a name, by what a topology text gives: a refused line, an unknown domain, a domain without a
 -- key, or else its key

@@ -1,6 +1,5 @@
 -- What comes of signing a record: by the topology, and by the disk.
 use Rattle.std.specs.Prelude.{◌≡◌, ◌⊎◌, ℕ, ⊤, Bool, false, List, find, option_map, Option, Some, None, IfSome, Result, Ok, Err}
-use Rattle.std.specs.Str.{bytes_eq}
 use Rattle.lms_core.specs.Tree.{Key}
 use Rattle.lease_disk.specs.Images.{AtEachMoment}
 use Rattle.leaf_lease.specs.Kept.{KeepsGone}
@@ -13,12 +12,14 @@ use Rattle.aip_topo.specs.declared.topology.Part.{Part}
 use Rattle.aip_topo.specs.declared.topology.Part.TheVariants as part
 use Rattle.aip_topo.specs.declared.topology.Topology.{Topology}
 use Rattle.aip_topo.specs.Reading.{RefusedLine, topology_of}
+use Rattle.aip_topo.specs.Steps.{names_host}
 use Rattle.aip_registry.specs.declared.records.Record.{Record}
 use Rattle.aip_registry.specs.declared.records.RecordKind.{RecordKind}
 use Rattle.aip_registry.specs.declared.records.RecordKind.TheVariants.{Peer, Bind}
 use Rattle.record_signer.specs.declared.faults.SigningFault.{SigningFault}
 use Rattle.record_signer.specs.declared.faults.SigningFault.TheVariants as signing
 use Rattle.record_signer.specs.Signed.{SparesBut}
+use Rattle.aip_top.specs.Leasing.{domain_named}
 use Rattle.aip_top.specs.Words.{Stated}
 use Rattle.aip_top.specs.declared.command.Statement.{Statement}
 use Rattle.aip_top.specs.declared.status.Status.{Status}
@@ -30,11 +31,6 @@ pub data Drafted : Type 0 where
   Denied : Status → Drafted
   Drafts : Key → Record → Drafted
 
--- a host of this name
-abbrev pub is_host_named : List ℕ → Part → Bool
-is_host_named name (part.Host host) = bytes_eq host.name name
-is_host_named name (part.Link link) = false
-
 -- the id of a host
 abbrev pub host_id : Option Part → Option Id
 host_id None = None
@@ -45,14 +41,10 @@ host_id (Some (part.Link link)) = None
 abbrev pub domain_id : Option Domain → Option Id
 domain_id domain = option_map (λ (d : Domain). d.ad) domain
 
--- the domain of this name
-abbrev pub domain_named : List ℕ → List Domain → Option Domain
-domain_named name domains = find (λ (domain : Domain). bytes_eq domain.name name) domains
-
 -- the id that a record is about: that of the domain, or of the host, of this name
 abbrev pub other_named : Topology → RecordKind → List ℕ → Option Id
 other_named t Peer name = domain_id (domain_named name t.domains)
-other_named t Bind name = host_id (find (is_host_named name) t.parts)
+other_named t Bind name = host_id (find (names_host name) t.parts)
 
 -- a domain that was given by its id has no key
 abbrev pub drafted_by : topo.Key → Record → Drafted

@@ -3,10 +3,9 @@ use Rattle.std.specs.Prelude.{◌≡◌, ℕ, ◌^◌, nat_lt, ◌⊎◌, ⊤, B
 use Rattle.std.proofs.Common.{String, Global}
 use Rattle.std.specs.Str.{bytes_eq}
 use Rattle.aip_addr.specs.Naming.{is_name}
-use Rattle.aip_text.specs.Fields.{◌>>=◌, name_of}
+use Rattle.aip_text.specs.Fields.{◌>>=◌, name_of, named}
 use Rattle.aip_text.specs.Words.{number_of}
-use Rattle.aip_registry.specs.declared.records.RecordKind.{RecordKind}
-use Rattle.aip_registry.specs.declared.records.RecordKind.TheVariants.{Peer, Bind}
+use Rattle.aip_registry.specs.Record.{all_kinds, record_word}
 use Rattle.aip_top.specs.declared.command.Statement.{Statement}
 
 -- the two files that a run names
@@ -73,13 +72,6 @@ command_of_three word topology third =
     else if bytes_eq word (codes "replay") then Some (Replay (record { topology = topology; trace = third }))
     else None
 
--- the kind of record that a word names
-abbrev pub kind_of_word : List ℕ → Option RecordKind
-kind_of_word word =
-    if bytes_eq word (codes "peer") then Some Peer
-    else if bytes_eq word (codes "bind") then Some Bind
-    else None
-
 -- a number below 2^48
 abbrev pub time_of : List ℕ → Option ℕ
 time_of word = number_of word >>= λ n. if nat_lt n (2 ^ 48) then Some n else None
@@ -88,7 +80,7 @@ time_of word = number_of word >>= λ n. if nat_lt n (2 ^ 48) then Some n else No
 abbrev pub statement_of : List ℕ → List ℕ → List ℕ → List ℕ → List ℕ → Option Statement
 statement_of domain kind other number until = do
   d ← name_of domain
-  k ← kind_of_word kind
+  k ← named record_word all_kinds kind
   o ← name_of other
   n ← time_of number
   u ← time_of until

@@ -8,14 +8,10 @@ use Rattle.aip_make.specs.declared.summary.Summary.{Summary}
 use Rattle.aip_make.specs.Ends.{answer_to}
 use Rattle.aip_make.specs.Schedules.{made_schedule}
 use Rattle.aip_make.specs.Summaries.{summary_text}
-use Rattle.aip_make.specs.Workload.{made_topology}
+use Rattle.aip_make.specs.Workload.{made_topology, made_lines}
 use Rattle.aip_top.specs.Statuses.{status_without_summary}
 use Rattle.aip_top.specs.declared.status.Status.{Status}
 use Rattle.aip_top.specs.declared.status.Status.TheVariants as status
-
--- how many lines a workload has
-abbrev pub made_lines : ℕ
-made_lines = 60000
 
 -- what an answer to a workload gives: the lines of its summary, or the status that refuses it
 abbrev pub given_by : Result Summary MadeEnd → Result (List ℕ) Status

@@ -1,5 +1,5 @@
 ghost use Rattle.std.specs.Prelude.{◌≡◌, map, option_map, string_bytes};
-ghost use Rattle.aip_top.specs.Words.{command_of, command_of_many, command_of_seven, command_of_three, command_of_two, kind_of_word, lease_of, make_of, statement_of, time_of, workload_number};
+ghost use Rattle.aip_top.specs.Words.{command_of, command_of_many, command_of_seven, command_of_three, command_of_two, lease_of, make_of, statement_of, time_of, workload_number};
 ghost use Rattle.aip_top.specs.Named.{named};
 
 use aip_addr::Name;
@@ -158,19 +158,6 @@ fn command_of_three<'a>(
     }
 }
 
-// The kind of record that a word names.
-fn kind_of_word(word: &[u8]) -> Option<RecordKind>
-    ensures { result ≡ kind_of_word word.now }
-{
-    if word == b"peer".as_slice() {
-        Some(RecordKind::Peer)
-    } else if word == b"bind".as_slice() {
-        Some(RecordKind::Bind)
-    } else {
-        None
-    }
-}
-
 // A number below 2^48.
 fn time_of(word: &[u8]) -> Option<u64>
     ensures { result ≡ time_of word.now }
@@ -190,7 +177,7 @@ fn statement_of(
     ensures { result ≡ statement_of domain.now kind.now other.now number.now until.now }
 {
     let domain = read_name(domain)?;
-    let kind = kind_of_word(kind)?;
+    let kind = RecordKind::named(kind)?;
     let other = read_name(other)?;
     let number = time_of(number)?;
     let until = time_of(until)?;

@@ -1,7 +1,7 @@
 // The command `record`: what a record says and which key signs it, and what it does to the disk.
 ghost use Rattle.std.specs.Prelude.{true, false, ◌≡◌, ◌≢◌, ◌⊎◌, Err, List, ℕ, Some, find, option_map, IfSome, IfOk, IfErr, IsErrOf};
-ghost use Rattle.std.specs.Str.{bytes_eq};
 ghost use Rattle.std.specs.Option.{ForSome};
+ghost use Rattle.aip_topo.specs.Steps.{names_host};
 ghost use Rattle.fault_counts.specs.Causes.{HasCause, Rose};
 ghost use Rattle.aip_io.specs.Causes.{ReadsOnly};
 ghost use Rattle.record_signer.specs.Signed.{Signs, signed_by};
@@ -9,7 +9,7 @@ ghost use Rattle.aip_top.specs.Commands.{RecordOf, RecordDone};
 ghost use Rattle.aip_top.specs.Draft.{IsDrafted};
 ghost use Rattle.aip_top.specs.Judged.{IsEarly, JudgesCommand};
 ghost use Rattle.aip_top.specs.Leasing.{IsBeforeDisk};
-ghost use Rattle.aip_top.specs.Recording.{HasWritten, KeepsRecords, OfDraft, denial_in, drafted_by, drafted_in, drafted_of, drafted_with, domain_id, host_id, is_host_named, other_named};
+ghost use Rattle.aip_top.specs.Recording.{HasWritten, KeepsRecords, OfDraft, denial_in, drafted_by, drafted_in, drafted_of, drafted_with, domain_id, host_id, other_named};
 ghost use Rattle.aip_top.specs.Statuses.{kind_of};
 ghost use Rattle.aip_top.specs.Words.{IsNamed, Record as Recorded, Stated};
 
@@ -37,7 +37,7 @@ pub struct Draft {
 }
 
 fn is_host_named(part: &Part, name: &Name) -> bool
-    ensures { result ≡ is_host_named name.now part.now }
+    ensures { result ≡ names_host name.now part.now }
 {
     match part {
         Part::Host(host) => host.name == *name,
@@ -56,7 +56,7 @@ fn host_id(part: Option<&Part>) -> Option<Id>
 }
 
 fn part_named<'a>(parts: &'a [Part], name: &Name) -> Option<&'a Part>
-    ensures { option_map (λ p. p.now) result ≡ find (is_host_named name.now) parts.now }
+    ensures { option_map (λ p. p.now) result ≡ find (names_host name.now) parts.now }
 {
     parts.iter().find(|part| is_host_named(part, name))
 }

@@ -1,6 +1,5 @@
 // The command `lease`: what it wants, and what it does to the disk.
-ghost use Rattle.std.specs.Prelude.{true, false, ◌≡◌, ◌≢◌, ◌⊎◌, Err, ◌++◌, ◌∷◌, [], Some, codes, decimal, find, option_map, IfSome, IfOk, IfErr, IsErrOf, OnOk};
-ghost use Rattle.std.specs.Str.{bytes_eq};
+ghost use Rattle.std.specs.Prelude.{true, false, ◌≡◌, ◌≢◌, ◌⊎◌, Err, ◌++◌, ◌∷◌, [], Some, codes, decimal, option_map, IfSome, IfOk, IfErr, IsErrOf, OnOk};
 ghost use Rattle.hex.specs.Hex.{encode_lower};
 ghost use Rattle.aip_io.specs.Causes.{ReadsOnly};
 ghost use Rattle.lms_core.specs.Tree.{Key as MadeKey};
@@ -8,10 +7,9 @@ ghost use Rattle.lease_disk.specs.Images.{OnlyLooks};
 ghost use Rattle.fault_counts.specs.Causes.{HasCause, Rose};
 ghost use Rattle.leaf_lease.specs.Format.{FormatSays, format_failed, formatted_disk, is_already};
 ghost use Rattle.std.specs.Option.{ForSome};
-ghost use Rattle.aip_topo.specs.declared.topology.Domain.{Domain as NamedDomain};
 ghost use Rattle.aip_top.specs.Commands.{KeepsLeases, LeaseOf};
 ghost use Rattle.aip_top.specs.Judged.{IsEarly, JudgesCommand};
-ghost use Rattle.aip_top.specs.Leasing.{Formats, HasFresh, IsBeforeDisk, IsFormatted, KeepsOpen, LeaseSays, OfKey, asked_in, asked_of, asked_of_key, lease_text, refusal_in};
+ghost use Rattle.aip_top.specs.Leasing.{Formats, HasFresh, IsBeforeDisk, IsFormatted, KeepsOpen, LeaseSays, OfKey, asked_in, asked_of, asked_of_key, domain_named, lease_text, refusal_in};
 ghost use Rattle.aip_top.specs.Statuses.{kind_of};
 ghost use Rattle.aip_top.specs.Wanted.{IsWanted, Wants};
 ghost use Rattle.aip_top.specs.Words.{IsNamed, Lease, Leased};
@@ -66,7 +64,7 @@ fn wanted_of(alloc: Global, tree: &Tree) -> Result<Wanted, AllocError>
 
 /// The domain of this name.
 pub fn domain_named<'a>(domains: &'a [Domain], name: &Name) -> Option<&'a Domain>
-    ensures { option_map (λ d. d.now) result ≡ find (λ (d : NamedDomain). bytes_eq d.name name.now) domains.now }
+    ensures { option_map (λ d. d.now) result ≡ domain_named name.now domains.now }
 {
     domains.iter().find(|d| d.name == *name)
 }

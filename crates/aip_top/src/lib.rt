@@ -21,7 +21,6 @@ mod topology;
 mod workload;
 mod writing;
 
-pub use aip_make::{MadeEnd, Summary, made};
 pub use aip_records::RecordFault;
 pub use status::{LeaseFault, Status};
 pub use top::aip;

@@ -9,11 +9,8 @@ ghost use Rattle.aip_top.specs.Workloads.{IsMadeEnd, IsSummed, workload};
 use crate::status::Status;
 use crate::writing::put_text;
 use aip_io::Sink;
-use aip_make::made;
+use aip_make::{MADE_LINES, made};
 use std::alloc::Global;
-
-// How many lines a workload has.
-const MADE_LINES: u32 = 60_000;
 
 // The lines of the summary of a workload; or the status that ends the command before anything is written.
 #[tactic(auto, unfolding(crate::specs::Workloads::workload))]

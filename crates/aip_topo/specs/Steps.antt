@@ -3,7 +3,7 @@ use Rattle.std.specs.Prelude.{ℕ, ◌==◌, ◌||◌, Bool, true, false, not, n
 use Rattle.std.specs.List.{list_any}
 use Rattle.std.specs.Option.{is_none, is_some}
 use Rattle.std.specs.Str.{bytes_eq}
-use Rattle.aip_addr.specs.Ids.{id_of_key, id_of_router}
+use Rattle.aip_addr.specs.Ids.{id_of_key, id_of_router, is_same_id}
 use Rattle.aip_addr.specs.declared.ids.Id.{Id}
 use Rattle.lms_core.specs.Tree.{identifier_of, key_from, public_key_of}
 pub use Rattle.aip_topo.specs.Parts.{is_host, is_link}
@@ -208,11 +208,11 @@ addition_of t (line.Link a b a_trusts b_trusts) = addition.Part (link_from t.rou
 
 -- the domain has this id
 abbrev pub has_ad : Id → Domain → Bool
-has_ad ad domain = bytes_eq domain.ad.bytes ad.bytes
+has_ad ad domain = is_same_id domain.ad ad
 
 -- the router has this id
 abbrev pub has_eid : Id → Router → Bool
-has_eid eid router = bytes_eq router.address.eid.bytes eid.bytes
+has_eid eid router = is_same_id router.address.eid eid
 
 -- it is a host whose key identifier is that of this id, whatever the interface
 abbrev pub has_key_id : Id → Part → Bool

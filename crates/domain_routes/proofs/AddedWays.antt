@@ -35,26 +35,6 @@ pub record AreWaysSoFar (n : ℕ) (edges left : List Edge) (all : List (Vec Way 
   pub count : length all ≡ n
   pub rest : (router : ℕ) → row_of all router ++ ways left router ≡ ways edges router
 
--- the ways of one more link
-pub ways_turn : (n : ℕ) (edges left : List Edge) (e : Edge) (all new : List (Vec Way Global))
-    → AreWaysSoFar n edges (e ∷ left) all → length new ≡ length all
-    → ((router : ℕ) → row_of new router ≡ row_of all router ++ ways_by e router)
-    → AreWaysSoFar n edges left new
-ways_turn n edges left e all new h count added = record {
-  count = count ∙ h.count;
-  rest = λ router.
-      let here = way_if (e.up && (eqb e.a router)) (record { port = e.a_port; neighbour = e.b }) in
-      let back = way_if (e.up && (eqb e.b router)) (record { port = e.b_port; neighbour = e.a }) in
-      ap (λ row. row ++ ways left router) (added router) ∙ append_assoc (row_of all router) (here ++ back) (ways left router)
-      ∙ ap (λ more. row_of all router ++ more) (append_assoc here back (ways left router)) ∙ h.rest router;
-}
-
 -- a row that is there holds its ways
 row_at : (all : List (Vec Way Global)) (router : ℕ) (row : Vec Way Global) → slice_get all router ≡ Some row → row_of all router ≡ row.items
 row_at all router row e = ap ways_in e
-
-pub ways_all : (domains : List ℕ) (edges : List Edge) (all : List (Vec Way Global)) → AreWaysSoFar (length domains) edges [] all → AreWays domains edges all
-ways_all domains edges all h = record {
-  count = h.count;
-  each = λ router row e. sym (row_at all router row e) ∙ sym (append-nil (row_of all router)) ∙ h.rest router;
-}

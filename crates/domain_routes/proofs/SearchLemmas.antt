@@ -201,19 +201,6 @@ pub record IsZeroUpTo (domains : List ℕ) (goal : Goal) (n : ℕ) (xs : List (O
   pub count : length xs ≡ n
   pub each : (router : ℕ) → router < n → level_at xs router ≡ level_if (is_in_goal domains goal router)
 
-pub zero_none : (domains : List ℕ) (goal : Goal) → IsZeroUpTo domains goal 0 []
-zero_none domains goal = record { count = refl; each = λ router lt. absurd (omega arith) }
-
-pub zero_more : (domains : List ℕ) (goal : Goal) (n d : ℕ) (xs : List (Option ℕ)) (level : Option ℕ) → IsZeroUpTo domains goal n xs → n < length domains → level ≡ level_if (takes_in goal n (Some (get_or domains n d))) → IsZeroUpTo domains goal (n + 1) (xs ++ level ∷ [])
-zero_more domains goal n d xs level h lt is = record {
-  count = let c : length xs ≡ n = h.count in omega (arith, length-append xs (level ∷ []));
-  each = λ router below. let c : length xs ≡ n = h.count in elim (cases_eq router n) [
-    | inl q ↦ let a : get_or (xs ++ level ∷ []) (length xs) None ≡ level = get_or_push xs level None (length xs) refl in
-        ap (level_at (xs ++ level ∷ [])) (q ∙ sym c) ∙ a ∙ is ∙ ap (λ (o : Option ℕ). level_if (takes_in goal n o)) (sym (slice_get-get_or domains n d lt)) ∙ ap (λ (m : ℕ). level_if (is_in_goal domains goal m)) (sym q)
-    | inr ne ↦ let in' : router < length xs = omega arith in get_or_append_left xs (level ∷ []) None router in' ∙ h.each router (omega arith)
-  ];
-}
-
 pub zero_all : (domains : List ℕ) (goal : Goal) (n : ℕ) (xs : List (Option ℕ)) → IsZeroUpTo domains goal n xs → n ≡ length domains → IsLevelZero domains goal xs
 zero_all domains goal n xs h all = record {
   count = h.count ∙ all;

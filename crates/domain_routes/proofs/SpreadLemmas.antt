@@ -46,18 +46,6 @@ pub record IsSpread (edges : List Edge) (level i : ℕ) (old xs : List (Option �
   pub less : found ≡ true → unset xs < unset old
   pub at_most : unset xs ≤ unset old
 
-pub spread_at_start : (edges : List Edge) (level : ℕ) (xs : List (Option ℕ)) → IsSpread edges level 0 xs xs false
-spread_at_start edges level xs = record {
-  spreads = record {
-    kept = λ r k e. e;
-    fresh = λ r k e. inl e;
-    reached = λ near w lt e c. absurd (omega arith);
-  };
-  same = λ e. refl;
-  less = λ e. cc;
-  at_most = omega arith;
-}
-
 pub spread_past : (edges : List Edge) (level i j : ℕ) (old xs new : List (Option ℕ)) (f g : Bool) → IsSpread edges level i old xs f → j ≡ suc i → (level_at xs i ≡ Some level → ⊥) → new ≡ xs → g ≡ f → IsSpread edges level j old new g
 spread_past edges level i j old xs new f g h js not_at is same = record {
   spreads = rw is (spreads_past edges level i j old xs h.spreads js not_at);

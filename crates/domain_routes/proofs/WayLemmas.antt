@@ -99,31 +99,3 @@ walk-more domains es goal n router w c h =
 pub walk-zero : (domains : List ℕ) (es : List Edge) (goal : Goal) (router : ℕ) → has_walk domains es goal 0 router ≡ is_in_goal domains goal router
 unfolding has_walk
 walk-zero domains es goal router = refl
-
--- the ways out of the routers up to one of them
-pub record AreWaysUpTo (edges : List Edge) (n : ℕ) (all : List (Vec Way Global)) : Type 0 where
-  pub count : length all ≡ n
-  pub each : (router : ℕ) (d : Vec Way Global) → router < n → (get_or all router d).items ≡ ways edges router
-
-pub ways_none : (edges : List Edge) → AreWaysUpTo edges 0 []
-ways_none edges = record { count = refl; each = λ router d lt. absurd (omega arith) }
-
-pub ways_more : (edges : List Edge) (n : ℕ) (all : List (Vec Way Global)) (row : Vec Way Global) → AreWaysUpTo edges n all → row.items ≡ ways edges n → AreWaysUpTo edges (n + 1) (all ++ row ∷ [])
-ways_more edges n all row h is = record {
-  count = let c : length all ≡ n = h.count in omega (arith, length-append all (row ∷ []));
-  each = λ router d below. let c : length all ≡ n = h.count in elim (cases_eq router n) [
-    | inl q ↦ ap (λ (v : Vec Way Global). v.items) (get_or_push all row d router (c ∙ sym q)) ∙ is ∙ ap (ways edges) (sym q)
-    | inr ne ↦ let in' : router < length all = omega arith in ap (λ (v : Vec Way Global). v.items) (get_or_append_left all (row ∷ []) d router in') ∙ h.each router d (omega arith)
-  ];
-}
-
-pub ways_all : (domains : List ℕ) (edges : List Edge) (n : ℕ) (all : List (Vec Way Global)) → AreWaysUpTo edges n all → n ≡ length domains → AreWays domains edges all
-ways_all domains edges n all h same = record {
-  count = h.count ∙ same;
-  each = λ router row e.
-      let in' : router < length all = slice_get_within all router row e in
-      let c : length all ≡ n = h.count in
-      let at : Some row ≡ Some (get_or all router row) = sym e ∙ slice_get-get_or all router row in' in
-      let q : row ≡ get_or all router row = cc in
-      ap (λ (v : Vec Way Global). v.items) q ∙ h.each router row (omega arith);
-}

@@ -43,7 +43,7 @@ mod ways;
 /// be followed both ways.
 #[derive(Clone, Copy, PartialEq, Eq, Debug)]
 pub struct Edge {
-    /// The router at one end, by its position in the graph.
+    /// The router at one end, by its place in the graph.
     pub a: u16,
     /// The port of `a` at which the link is plugged in.
     pub a_port: u16,
@@ -55,7 +55,7 @@ pub struct Edge {
     pub up: bool,
 }
 
-/// The routers, each known by its position, and the links between them.
+/// The routers, each known by its place, and the links between them.
 #[derive(Debug, Drop)]
 pub struct Graph {
     /// The domain of each router.
@@ -81,7 +81,7 @@ impl Graph {
 pub enum Goal {
     /// Any router of the domain with this number.
     Domain(u16),
-    /// The router at this position of the graph.
+    /// The router at this place of the graph.
     Router(u16),
 }
 

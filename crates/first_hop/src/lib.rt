@@ -11,7 +11,8 @@
 #![tactic(auto)]
 
 ghost use Rattle.std.specs.Prelude.{◌≡◌, cond, not, ◌∷◌};
-ghost use Rattle.accept_cache.specs.Keys.{same_id, pair_of};
+ghost use Rattle.aip_addr.specs.Ids.{is_same_id};
+ghost use Rattle.accept_cache.specs.Keys.{pair_of};
 ghost use Rattle.accept_cache.specs.Kept.{has_fresh, after_hit};
 ghost use Rattle.accept_cache.specs.Recency.{Hit};
 ghost use Rattle.accept_cache.specs.Accepted.{PairUses, WildcardUses, is_fresh_pair};
@@ -44,13 +45,13 @@ pub fn first_hop(
     port: u16,
     now: u64,
 ) -> HostVerdict
-    ensures verdict { result ≡ host_verdict (not (same_id source.now.ad ad.now)) (has_fresh cache.old (pair_of source.now port) now) }
+    ensures verdict { result ≡ host_verdict (not (is_same_id source.now.ad ad.now)) (has_fresh cache.old (pair_of source.now port) now) }
     ensures kept { cache.new ≡ after_hit cache.old (pair_of source.now port) (is_proved result) }
     ensures limits { cache.new.limits ≡ cache.old.limits }
 
     // For the uses that the cache stood for: the first verdict that applies, and what the cache stands for then.
     ensures by_uses { (uses : PairUses) (wilds : WildcardUses) → CacheStandsFor uses wilds cache.old
-        → result ≡ host_verdict (not (same_id source.now.ad ad.now)) (is_fresh_pair cache.old.limits uses now (pair_of source.now port)) }
+        → result ≡ host_verdict (not (is_same_id source.now.ad ad.now)) (is_fresh_pair cache.old.limits uses now (pair_of source.now port)) }
     ensures stands { (uses : PairUses) (wilds : WildcardUses) → CacheStandsFor uses wilds cache.old
         → CacheStandsFor (cond (is_proved result) (Hit (pair_of source.now port) ∷ uses) uses) wilds cache.new }
 {

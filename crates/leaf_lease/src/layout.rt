@@ -11,7 +11,7 @@ pub const HEAD: usize = 18;
 /// The size of the largest lease file, of a key of height 10.
 pub const LARGEST: usize = 1042;
 
-/// The calls of the disk that write, in one lease: the leaf's byte, and the sync.
+/// How many writes and syncs of the disk one lease takes: the leaf's byte, and the sync.
 pub const LEASE_CALLS: usize = 2;
 
 /// The bytes that one lease writes.

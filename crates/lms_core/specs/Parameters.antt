@@ -27,3 +27,7 @@ height_of code = if code == 5 then Some H5 else if code == 6 then Some H10 else 
 -- path of one node for each level (RFC 8554, section 5.4)
 abbrev pub signature_len_of : Width → Height → ℕ
 signature_len_of width height = 4 + one_time.signature_len_of width + 4 + 32 * levels_of height
+
+-- the most bytes of a signature: of width W1 and height H10
+abbrev pub most_signature : ℕ
+most_signature = 8844

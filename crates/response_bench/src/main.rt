@@ -8,7 +8,7 @@ ghost use Rattle.aip_frame.specs.Frame.{frame_of};
 ghost use Rattle.aip_frame.specs.declared.frame.Kind.TheVariants as kind;
 
 use aip_addr::{Address, Id};
-use aip_frame::{Frame, Kind, encode, is_frame, kind_of};
+use aip_frame::{Frame, Kind, MOST_BODY, encode, is_frame, kind_of};
 use lms_core::{Height, PublicKey, Tree, Width, signature_len, verify};
 use std::alloc::{AllocError, Global};
 use std::{env, io};
@@ -56,7 +56,7 @@ fn signature(alloc: Global, tree: &Tree) -> Result<Vec<u8>, AllocError> {
 /// The frame in which the host answers.
 fn response(alloc: Global, key: &PublicKey, signature: &[u8]) -> Result<Vec<u8>, AllocError> {
     let body = response_body(alloc, &asked(key), key, signature)?;
-    if body.as_slice().len() > 9126 {
+    if body.as_slice().len() > MOST_BODY {
         return Ok(Vec::new(alloc));
     }
     let frame = Frame {

@@ -1,9 +1,10 @@
 //! Times a checking router at its limits: the core of a network, to whose router packets of known and unknown sources come.
 //!
-//! 64 sources answer its challenges, and 1,000 packets come; with the word `small` 100,000 packets; with the word `limits`
-//! 4,096 sources answer, and 100,000 packets come. Of four packets one is of a source that was accepted last, one of the
-//! first, and two are of sources that the router doesn't know. It prints how many packets were forwarded and about how
-//! many their sources were asked, and with a word the processor time of a packet, without what went before the first.
+//! 64 sources answer its challenges, and 1,000 packets come; with the word `limits` 4,096 sources answer, and 100,000 packets
+//! come; with any other word, as `small`, 64 sources answer, and 100,000 packets come. Of four packets one is of a source that
+//! was accepted, taken in the order in which they were, one is of one taken in the opposite order, and two are of sources that
+//! the router doesn't know. It prints how many packets were forwarded and about how many their sources were asked, and with
+//! a word the processor time of a packet, without what went before the first.
 #![tactic(auto)]
 
 mod network;

@@ -7,7 +7,7 @@ use crate::network::{Fault, bring, deliver, network, receiver, source};
 use aip_addr::{Address, Bytes, Id};
 use aip_core::Core;
 use aip_event::Event;
-use aip_frame::{Frame, Kind, body_of, encode, from_of, is_frame, kind_of};
+use aip_frame::{Frame, Kind, MOST_BODY, body_of, encode, from_of, is_frame, kind_of};
 use lms_core::{Height, Tree, Width, signature_len};
 use std::alloc::{AllocError, Global};
 use verify_packet::{response_body, response_text};
@@ -58,7 +58,7 @@ fn response(
     let mut signature = vec![in alloc; 0; signature_len(tree.width(), tree.height())]?;
     tree.sign(leaf, &response_text(asked), &mut signature);
     let body = response_body(alloc, asked, &tree.public(), &signature)?;
-    if body.as_slice().len() > 9126 {
+    if body.as_slice().len() > MOST_BODY {
         return Err(Fault::Refused);
     }
     let frame = Frame {

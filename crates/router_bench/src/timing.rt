@@ -73,7 +73,8 @@ fn filled(alloc: Global, sources: &[Source]) -> Result<Core, Fault> {
     Ok(core)
 }
 
-/// The flight that comes as the k-th packet: of four packets one is of a source that was accepted last, one of the first.
+/// The flight that comes as the k-th packet: of four packets one is of a source that was accepted, in the order in which
+/// they were, one of such a source in the opposite order, and two are of strangers.
 fn flight(sources: u32, k: u32) -> u32
     requires some { 1 ≤ sources }
     requires few { sources ≤ 4096 }
@@ -169,7 +170,7 @@ pub fn run(
     println!(rt; "{known} sources: {forwarded} packets forwarded, {asked} asked about")?;
     if timed {
         let packets = forwarded.saturating_add(asked).max(1);
-        let nanos = (time / packets).subsec_nanos();
+        let nanos = (time / packets).as_nanos();
         println!(rt; "{nanos} nanoseconds a packet")?;
     }
     Ok(())

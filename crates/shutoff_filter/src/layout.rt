@@ -19,7 +19,8 @@ pub const SLOT: usize = 28;
 /// The size of the largest filter file, of a room of 256.
 pub const LARGEST: usize = 7199;
 
-/// The calls of the disk that write, in keeping one entry: three writes, each with a sync.
+/// How many writes and syncs of the disk the keeping of one entry takes at most, from `ready` on: three writes, each with a
+/// sync.
 pub const KEEP_CALLS: usize = 6;
 
 /// The bytes that keeping one entry writes at most: a gate that is closed, the entry, and its gate.

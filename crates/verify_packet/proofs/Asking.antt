@@ -57,11 +57,6 @@ read_back asked more h =
     (ap (λ (t : List ℕ). big_number 8 (take 8 t)) (past 40 74 r two lr ∙ (past 40 34 s three ls ∙ (past 32 2 asked.hash four h.hash ∙ drop_at p (e ++ more) 2 refl)))
     ∙ number_first 8 asked.epoch more refl h.epoch)
 
--- what a challenge asks is read from it
-pub challenge_read : (router : RouterKey) (asked : Asked) → AskedFits asked → asked_in (challenge_of router asked) ≡ asked
-unfolding challenge_of
-challenge_read router asked h = read_back asked (tag_of router asked.epoch (asked_bytes asked)) h
-
 -- the same of its parts, as they are written
 pub parts_read : (router : RouterKey) (asked : Asked) (bytes tag : List ℕ) → bytes ≡ asked_bytes asked → AskedFits asked → asked_in (bytes ++ tag) ≡ asked
 parts_read router asked bytes tag b h = rw b (read_back asked tag h)

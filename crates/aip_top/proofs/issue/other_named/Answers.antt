@@ -1,6 +1,7 @@
 use Rattle.std.proofs.Common.{ap, sym, ◌∙◌}
 use Rattle.aip_registry.specs.declared.records.RecordKind.{RecordKind}
-use Rattle.aip_top.specs.Recording.{domain_id, domain_named, other_named}
+use Rattle.aip_top.specs.Leasing.{domain_named}
+use Rattle.aip_top.specs.Recording.{domain_id, other_named}
 use Rattle.aip_top.proofs.issue.other_named.Goals as goal
 
 pub returns-in-Peer : goal.returns-in-Peer
