@@ -1,5 +1,5 @@
-//! Whole runs of the top call over texts in memory, where calls of the shelf and of the sink fail in turn, and random
-//! schedules of three hosts against a plain count.
+//! Whole runs of the top call and replays over texts in memory, where calls of the shelf and of the sink fail in turn, and
+//! random schedules of three hosts against a plain count.
 #![tactic(auto)]
 
 #[cfg(test)]
@@ -8,6 +8,8 @@ mod count;
 mod random_tests;
 #[cfg(test)]
 mod record_tests;
+#[cfg(test)]
+mod replay_tests;
 #[cfg(test)]
 mod run_tests;
 #[cfg(test)]

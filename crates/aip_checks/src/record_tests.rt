@@ -1,7 +1,7 @@
 //! Records and leases over a disk of which each call fails in turn, and a sink of which each put does.
-use crate::tests::{KEYED, file, one, words};
+use crate::tests::{KEYED, file, obey, one};
 use aip_io::{MemShelf, MemSink};
-use aip_top::{LeaseFault, Status, aip};
+use aip_top::{LeaseFault, Status};
 use lease_disk::MemDisk;
 use std::alloc::{AllocError, Global};
 use std::test::Fail;
@@ -25,8 +25,7 @@ fn obeyed(
     files.push(file(alloc, "topo.txt", KEYED)?)?;
     let mut shelf = MemShelf::new(alloc, files, Vec::new(alloc), 64)?;
     let mut sink = MemSink::new(alloc, 8192, one(alloc, put)?, 1000)?;
-    let words = words(alloc, line)?;
-    let (status, disk, _) = aip(alloc, &words, &mut shelf, &mut sink, disk);
+    let (status, disk, _) = obey(alloc, line, &mut shelf, &mut sink, disk)?;
     Ok((status, disk, sink))
 }
 

@@ -1,10 +1,10 @@
 ghost use Rattle.std.specs.Prelude.{◌≡◌, ◌≤◌};
 
-use crate::tests::{SCHEDULE, TRACE, disk, files, one, words};
+use crate::tests::{SCHEDULE, TRACE, disk, file, files, obey, one};
 use aip_core::Core;
 use aip_io::{MemShelf, MemSink};
 use aip_rules::StepFault;
-use aip_top::{Status, aip};
+use aip_top::Status;
 use std::alloc::{AllocError, Global};
 use std::test::Fail;
 
@@ -40,8 +40,8 @@ fn run_in(
         reads.most,
     )?;
     let mut sink = MemSink::new(alloc, 4096, one(alloc, puts.failing)?, puts.most)?;
-    let words = words(alloc, &["run", "topo.txt", "sched.txt"])?;
-    let (status, _, core) = aip(alloc, &words, &mut shelf, &mut sink, disk(alloc, 0)?);
+    let line = ["run", "topo.txt", "sched.txt"];
+    let (status, _, core) = obey(alloc, &line, &mut shelf, &mut sink, disk(alloc, 0)?)?;
     Ok((status, core, sink))
 }
 
@@ -141,5 +141,38 @@ fn no_core_comes_back_from_a_fault(rt: HostRuntime) -> Result<(), Fail> {
     let (status, core, _) = run_in(rt.alloc(), SCHEDULE, in_pieces(64, 0), in_pieces(5, 2))?;
     assert_eq!(rt; status, Status::WriteFault);
     assert!(rt; core.is_none());
+    Ok(())
+}
+
+// A checking router with a host whose key it can ask for, and another host.
+const CHECKED: &[u8] =
+    b"domain d id 0111111111111111111111111111111111111100\nrouter r d checking 0000000000000000000000000000000000000000000000000000000000000000\nhost a r plain seed W4 H5 0 3131313131313131313131313131313131313131313131313131313131313131\nhost b r plain id 01bbbbbbbbbbbbbbbbbbbbbbbbbbbbbbbbbbbb00\n";
+
+// A packet is asked about, the answer is taken, and the next packet is forwarded. Behind a restart the next is asked about.
+const ASKED_TWICE: &[u8] =
+    b"send a b 1 00\ndeliver 0\ndeliver 1\ndeliver 2\nsend a b 2 00\ndeliver 3\nrestart r\nsend a b 3 00\ndeliver 5\ndeliver 6\n";
+
+// How many lines of a trace begin with this.
+fn lines_with(trace: &[u8], start: &[u8]) -> usize {
+    trace
+        .split(|byte| *byte == b'\n')
+        .filter(|line| line.starts_with(start))
+        .count()
+}
+
+#[test]
+fn a_router_forgets_what_it_accepted_when_it_starts_anew(rt: HostRuntime) -> Result<(), Fail> {
+    let alloc = rt.alloc();
+    let mut files = Vec::new(alloc);
+    files.push(file(alloc, "topo.txt", CHECKED)?)?;
+    files.push(file(alloc, "sched.txt", ASKED_TWICE)?)?;
+    let mut shelf = MemShelf::new(alloc, files, Vec::new(alloc), 64)?;
+    let mut sink = MemSink::new(alloc, 65536, Vec::new(alloc), 4096)?;
+    let line = ["run", "topo.txt", "sched.txt"];
+    let (status, _, _) = obey(alloc, &line, &mut shelf, &mut sink, disk(alloc, 0)?)?;
+    assert_eq!(rt; status, Status::Done);
+    assert_eq!(rt; lines_with(sink.taken(), b"< proved r "), 1);
+    assert_eq!(rt; lines_with(sink.taken(), b"< forward r 0 1 "), 1);
+    assert_eq!(rt; lines_with(sink.taken(), b"< signed a "), 2);
     Ok(())
 }

@@ -1,3 +1,4 @@
+use aip_core::Core;
 use aip_io::{File, MemShelf, MemSink};
 use aip_rules::StepFault;
 use aip_top::{LeaseFault, Status, aip};
@@ -7,7 +8,7 @@ use std::alloc::{AllocError, Global};
 use std::test::Fail;
 
 // One domain, one open router, two hosts.
-const TOPOLOGY: &[u8] =
+pub(crate) const TOPOLOGY: &[u8] =
     b"domain d id 0111111111111111111111111111111111111100\nrouter r d open 0000000000000000000000000000000000000000000000000000000000000000\nhost a r plain id 01aaaaaaaaaaaaaaaaaaaaaaaaaaaaaaaaaaaa00\nhost b r plain id 01bbbbbbbbbbbbbbbbbbbbbbbbbbbbbbbbbbbb00\n";
 
 // One packet from a to b.
@@ -31,12 +32,24 @@ pub(crate) fn files(alloc: Global, schedule: &[u8]) -> Result<Vec<File>, AllocEr
     Ok(files)
 }
 
-pub(crate) fn words(alloc: Global, line: &[&str]) -> Result<Vec<String>, AllocError> {
+fn words(alloc: Global, line: &[&str]) -> Result<Vec<String>, AllocError> {
     let mut words = Vec::new(alloc);
     for word in line {
         words.push(String::from_str(alloc, word)?)?;
     }
     Ok(words)
+}
+
+// Obeys words over a shelf, a sink and a disk.
+pub(crate) fn obey(
+    alloc: Global,
+    line: &[&str],
+    shelf: &mut MemShelf,
+    sink: &mut MemSink,
+    disk: MemDisk,
+) -> Result<(Status, MemDisk, Option<Core>), AllocError> {
+    let words = words(alloc, line)?;
+    Ok(aip(alloc, &words, shelf, sink, disk))
 }
 
 // A disk of which the call of this number fails.
@@ -62,8 +75,8 @@ fn outcome(
 ) -> Result<(Status, MemSink), AllocError> {
     let mut shelf = MemShelf::new(alloc, files(alloc, schedule)?, one(alloc, read)?, 64)?;
     let mut sink = MemSink::new(alloc, 4096, one(alloc, put)?, 100)?;
-    let words = words(alloc, &["run", "topo.txt", "sched.txt"])?;
-    let (status, _, _) = aip(alloc, &words, &mut shelf, &mut sink, disk(alloc, 0)?);
+    let line = ["run", "topo.txt", "sched.txt"];
+    let (status, _, _) = obey(alloc, &line, &mut shelf, &mut sink, disk(alloc, 0)?)?;
     Ok((status, sink))
 }
 
@@ -116,8 +129,8 @@ fn the_second_put_of_five_bytes_fails(rt: HostRuntime) -> Result<(), Fail> {
     let alloc = rt.alloc();
     let mut shelf = MemShelf::new(alloc, files(alloc, SCHEDULE)?, Vec::new(alloc), 64)?;
     let mut sink = MemSink::new(alloc, 4096, one(alloc, 2)?, 5)?;
-    let words = words(alloc, &["run", "topo.txt", "sched.txt"])?;
-    let (status, _, _) = aip(alloc, &words, &mut shelf, &mut sink, disk(alloc, 0)?);
+    let line = ["run", "topo.txt", "sched.txt"];
+    let (status, _, _) = obey(alloc, &line, &mut shelf, &mut sink, disk(alloc, 0)?)?;
     assert_eq!(rt; status, Status::WriteFault);
     assert_eq!(rt; sink.taken(), b"> sen".as_slice());
     Ok(())
@@ -165,8 +178,7 @@ fn absent_files_and_other_words(rt: HostRuntime) -> Result<(), Fail> {
         (&["run", "topo.txt", "sched.txt", "more"], Status::Usage),
     ];
     for (line, expected) in lines {
-        let words = words(alloc, line)?;
-        let (status, after, _) = aip(alloc, &words, &mut shelf, &mut sink, disk(alloc, 0)?);
+        let (status, after, _) = obey(alloc, line, &mut shelf, &mut sink, disk(alloc, 0)?)?;
         assert_eq!(rt; status, expected);
         assert!(rt; after.bytes().is_empty());
     }
@@ -198,8 +210,8 @@ fn leased(
     files.push(file(alloc, "topo.txt", topology)?)?;
     let mut shelf = MemShelf::new(alloc, files, Vec::new(alloc), 64)?;
     let mut sink = MemSink::new(alloc, 4096, one(alloc, put)?, 100)?;
-    let words = words(alloc, &["lease", "topo.txt", domain])?;
-    let (status, disk, _) = aip(alloc, &words, &mut shelf, &mut sink, disk);
+    let line = ["lease", "topo.txt", domain];
+    let (status, disk, _) = obey(alloc, &line, &mut shelf, &mut sink, disk)?;
     Ok((status, disk, sink))
 }
 

@@ -19,7 +19,8 @@ use Rattle.aip_topo.specs.declared.topology.Router.{Router}
 use Rattle.aip_rules.specs.declared.Seat.{Seat}
 use Rattle.aip_addr.specs.Ids.{is_same_address}
 use Rattle.aip_rules.specs.Nodes.{place_of_router, router_with_address, domain_with_ad}
-use Rattle.aip_core.specs.Directory.{name_cmp, id_cmp, address_cmp}
+use Rattle.aip_topo.specs.Index.{name_cmp}
+use Rattle.aip_core.specs.Directory.{id_cmp, address_cmp}
 
 -- the order of lists of bytes finds the same bytes equal
 same_bytes : (a b : List ℕ) → is_eq (slice_cmp nat_cmp a b) ≡ bytes_eq a b

@@ -7,14 +7,11 @@ use Rattle.std.specs.Cmp.Lexicographic.{slice_cmp}
 use Rattle.std.specs.declared.cmp.Ordering.{Ordering}
 use Rattle.aip_addr.specs.declared.ids.Id.{Id}
 use Rattle.aip_addr.specs.declared.ids.Address.{Address}
+use Rattle.aip_topo.specs.Index.{name_cmp}
 use Rattle.aip_rules.specs.declared.Seat.{Seat}
 use Rattle.aip_addr.specs.Ids.{is_same_address}
 use Rattle.aip_rules.specs.Nodes.{seats_of, place_of_router, router_with_address, domain_with_ad}
 use Rattle.aip_core.specs.declared.directory.Directory.TheInside.{Inside}
-
--- the order of names
-abbrev pub name_cmp : List ℕ → List ℕ → Ordering
-name_cmp a b = slice_cmp nat_cmp a b
 
 -- the order of ids
 abbrev pub id_cmp : Id → Id → Ordering

@@ -9,7 +9,8 @@ ghost use Rattle.aip_addr.specs.Ids.{is_same_address};
 ghost use Rattle.aip_rules.specs.Nodes.{seats_of, seat_named, seat_with_address, place_of_router, router_with_address, domain_with_ad, address_named, name_at};
 ghost use Rattle.aip_rules.specs.Routes.{goal_of, goal_inside};
 ghost use Rattle.aip_core.specs.Machine.{seat_place};
-ghost use Rattle.aip_core.specs.Directory.{name_cmp, id_cmp, address_cmp, SitsBelow};
+ghost use Rattle.aip_topo.specs.Index.{name_cmp};
+ghost use Rattle.aip_core.specs.Directory.{id_cmp, address_cmp, SitsBelow};
 
 use crate::index::places_of;
 use aip_addr::{Address, Id, Name};

@@ -33,8 +33,6 @@ mod router;
 mod routers;
 mod routes;
 mod starting;
-#[cfg(test)]
-mod tests;
 mod trust;
 mod wiring;
 

@@ -29,13 +29,13 @@ key_id_found word id h =
     let read = hex_sized_found 19 word p.0 p.1 in
     let made = same_Some (record { bytes = p.0 }) id p.2 in
     let P : KeyId → Type 0 = λ i. IsKeyId i × (word ≡ key_id_word i) in
-    subst P made ((read.1, read.0), read.2)
+    subst P made ((read.0, read.1), read.2)
 
 key_id_again : (id : KeyId) → IsKeyId id → key_id_of (key_id_word id) ≡ Some id
-key_id_again id h = bind_at (λ bytes. Some (record { bytes = bytes })) (hex_sized_again 19 id.bytes h.1 h.0)
+key_id_again id h = bind_at (λ bytes. Some (record { bytes = bytes })) (hex_sized_again 19 id.bytes h.0 h.1)
 
 pub key_id_field : Field key_id_of key_id_word IsKeyId
-key_id_field = record { found = key_id_found; again = key_id_again; plain = λ id h. lacks-encode_lower 32 id.bytes refl h.1 }
+key_id_field = record { found = key_id_found; again = key_id_again; plain = λ id h. lacks-encode_lower 32 id.bytes refl h.0 }
 
 -- an address of two ids
 abbrev IsAddress : Address → Type 0
@@ -56,7 +56,7 @@ address_found word address h =
 address_again : (address : Address) → IsAddress address → address_of (address_word address) ≡ Some address
 address_again address h =
     bind_at (λ parts. id_of parts.0 >>= λ ad. id_of parts.1 >>= λ eid. Some (record { ad = ad; eid = eid }))
-    (cut_at_again 58 (id_word address.ad) (id_word address.eid) (lacks-encode_lower 58 address.ad.bytes refl h.0.1))
+    (cut_at_again 58 (id_word address.ad) (id_word address.eid) (lacks-encode_lower 58 address.ad.bytes refl h.0.0))
     ∙ bind_at (λ ad. id_of (id_word address.eid) >>= λ eid. Some (record { ad = ad; eid = eid })) (id_field.again address.ad h.0)
     ∙ bind_at (λ eid. Some (record { ad = address.ad; eid = eid })) (id_field.again address.eid h.1)
 
@@ -64,7 +64,7 @@ pub address_field : Field address_of address_word IsAddress
 address_field = record {
   found = address_found;
   again = address_again;
-  plain = λ a h. lacks-append 32 (id_word a.ad) (58 ∷ id_word a.eid) (lacks-encode_lower 32 a.ad.bytes refl h.0.1) (lacks-encode_lower 32 a.eid.bytes refl h.1.1);
+  plain = λ a h. lacks-append 32 (id_word a.ad) (58 ∷ id_word a.eid) (lacks-encode_lower 32 a.ad.bytes refl h.0.0) (lacks-encode_lower 32 a.eid.bytes refl h.1.0);
 }
 
 -- ## Targets

@@ -1,10 +1,10 @@
 -- The line of an input and of an event: words with one space between them.
-use Rattle.std.specs.Prelude.{ℕ, ◌≡◌, ◌<◌, ◌^◌, List, [], ◌∷◌, ◌++◌, flat_map, length, codes, decimal, ⊤}
+use Rattle.std.specs.Prelude.{ℕ, ◌<◌, ◌^◌, List, [], ◌∷◌, ◌++◌, flat_map, codes, decimal, ⊤}
 use Rattle.hex.specs.Hex.{IsBytes, encode_lower}
 use Rattle.aip_addr.specs.Naming.{IsName}
 use Rattle.aip_addr.specs.declared.ids.KeyId.{KeyId}
 use Rattle.aip_addr.specs.declared.ids.Address.{Address}
-use Rattle.aip_text.specs.Fields.{IsId, id_word}
+use Rattle.aip_text.specs.Fields.{IsId, IsSized, id_word}
 use Rattle.aip_text.specs.Words.{bytes_word, IsNumber}
 use Rattle.aip_event.specs.declared.input.Target.{Target}
 use Rattle.aip_event.specs.declared.input.Target.TheVariants as target
@@ -110,7 +110,7 @@ IsLongNumber n = n < 2 ^ 64
 
 -- a key identifier of 19 bytes
 abbrev pub IsKeyId : KeyId → Type 0
-IsKeyId id = (length id.bytes ≡ 19) × IsBytes id.bytes
+IsKeyId id = IsSized 19 id.bytes
 
 -- a target with a name and a number of the grammar
 abbrev pub IsTarget : Target → Type 0

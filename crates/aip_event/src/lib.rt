@@ -24,6 +24,3 @@ pub use event_writing::{write_event, write_events};
 pub use input::{Input, Target};
 pub use input_reading::read_input;
 pub use input_writing::write_input;
-
-#[cfg(test)]
-mod tests;

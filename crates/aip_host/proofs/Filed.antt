@@ -2,11 +2,12 @@
 use Rattle.std.proofs.Common.{◌≡◌, ℕ, ◌+◌, ◌^◌, ◌<◌, Bool, true, false, not, List, [], ◌∷◌, length, refl, sym, ◌∙◌, ap, subst, arith}
 use Rattle.std.specs.Prelude.{Option, Some, None, Err, option_map, unwrap_or}
 use Rattle.std.specs.Option.{ForSome}
+use Rattle.fault_counts.specs.Causes.{counted}
 use Rattle.lease_disk.specs.Call.{Len, Read, Sync}
 use Rattle.lease_disk.specs.Calls.{Ran}
 use Rattle.lease_disk.specs.Past.{content_of}
 use Rattle.lease_disk.specs.PastLaws.{content_is_image, still_content}
-use Rattle.lease_disk.specs.MemDisk.{DiskState, Leads, told_of, new_disk, left_by, restarted, risen}
+use Rattle.lease_disk.specs.MemDisk.{DiskState, Leads, told_of, new_disk, left_by, restarted}
 use Rattle.shutoff_filter.specs.declared.entries.ShutOffEntry.{ShutOffEntry}
 use Rattle.shutoff_filter.specs.declared.formatting.StoreFormatEnd.{StoreFormatEnd}
 use Rattle.shutoff_filter.specs.declared.formatting.StoreFormatEnd.TheVariants.{Already, Failed}
@@ -76,9 +77,9 @@ pub is_opened : (room same : ℕ) (entries others : List ShutOffEntry) (disk new
 is_opened room same entries others disk new count rest same_room same_entries ran =
     let Up : ℕ → List ShutOffEntry → DiskState → Type 0 = λ r es d. Keeps (record { room = r; entries = es; halt = None; is_down = false; disk = d }) in
     let ends = served_opening disk new count true rest.quiet ran in
-    let again : IsFilterAtRest room entries (record disk { calls = risen (risen (risen disk.calls)) })
+    let again : IsFilterAtRest room entries (record disk { calls = counted (counted (counted disk.calls)) })
     = record { holds = rest.holds; quiet = record { unlisted = rest.quiet.unlisted; unarmed = rest.quiet.unarmed; still = rest.quiet.still }; file = rest.file } in
-    let up : Up room entries (record disk { calls = risen (risen (risen disk.calls)) }) = rest_up room entries None _ again tt in
+    let up : Up room entries (record disk { calls = counted (counted (counted disk.calls)) }) = rest_up room entries None _ again tt in
     subst (λ r. Up r others new) (sym same_room) (subst (λ es. Up room es new) (sym same_entries) (subst (Up room entries) (sym ends.1) up))
 
 -- whatever stood before, the disk is at rest after a restart

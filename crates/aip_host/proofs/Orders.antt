@@ -1,5 +1,5 @@
 -- How a guard stands after an order.
-use Rattle.std.proofs.Common.{◌≡◌, ℕ, suc, ◌+◌, ◌^◌, ◌<◌, ◌≤◌, ◌==◌, ◌&&◌, ◌||◌, max, not, nat_le, Bool, true, false, if◌then◌else◌, List, [], ◌∷◌, length, refl, sym, ◌∙◌, ap, subst, arith}
+use Rattle.std.proofs.Common.{◌≡◌, ℕ, suc, ◌+◌, ◌^◌, ◌<◌, ◌≤◌, ◌==◌, ◌&&◌, ◌||◌, max, nat_le, Bool, true, false, if◌then◌else◌, List, [], ◌∷◌, length, refl, sym, ◌∙◌, ap, subst, arith}
 use Rattle.std.specs.Prelude.{Option, Some, None, IsSome, IfSome, is_some, Result, Ok, Err, OnOk}
 use Rattle.std.specs.List.{filter}
 use Rattle.std.specs.Option.{ForSome}
@@ -12,7 +12,7 @@ use Rattle.lease_disk.specs.PastLaws.{content_is_image, now_counts}
 use Rattle.lease_disk.specs.MemDisk.{DiskState, Leads, MayLeave, MayHaveLeft, clock_of, told_of, reserved, restarted, stopped_at}
 use Rattle.shutoff_filter.specs.declared.entries.ShutOffEntry.{ShutOffEntry}
 use Rattle.shutoff_filter.specs.declared.slots.Slot.{Slot}
-use Rattle.shutoff_filter.specs.Entries.{SameInForce, entries_of, in_force, is_key, others_in_force}
+use Rattle.shutoff_filter.specs.Entries.{SameInForce, entries_of}
 use Rattle.shutoff_filter.specs.FilterFile.{IsFilterOf, file_size, slot_in}
 use Rattle.shutoff_filter.specs.ImageLaws.{entries_same}
 use Rattle.shutoff_filter.specs.InForce.{same_with_entry}
@@ -140,16 +140,3 @@ pub entries_left : {E : Type 0} (now : ℕ) (kept : GuardState) (to : KeyId) (un
     → OnOk result (SameInForce now (entries_after kept to until) after.entries)
 entries_left now kept to until (Ok obeying) after done = done.entries
 entries_left now kept to until (Err end) after same = tt
-
--- the other keys in force are among those in force
-pub others_few : (now : ℕ) (to : KeyId) (entries : List ShutOffEntry) → others_in_force now to entries ≤ length (in_force now entries)
-others_few now to entries = among (in_force now entries)
-  where
-    among : (es : List ShutOffEntry) → length (filter (λ e. not (is_key e.to to)) es) ≤ length es
-    among [] = omega arith
-    among (e ∷ es) = by_case (not (is_key e.to to)) (among es)
-      where
-        by_case : (b : Bool) → length (filter (λ e. not (is_key e.to to)) es) ≤ length es
-            → length (if b then e ∷ filter (λ e. not (is_key e.to to)) es else filter (λ e. not (is_key e.to to)) es) ≤ suc (length es)
-        by_case true few = omega (arith, few)
-        by_case false few = omega (arith, few)

@@ -2,6 +2,7 @@
 use Rattle.std.proofs.Common.{◌≡◌, ◌≢◌, ℕ, ◌+◌, ◌<◌, ◌≤◌, ◌==◌, if◌then◌else◌, Bool, true, false, List, [], ◌∷◌, length, refl, sym, ◌∙◌, ap, subst, arith}
 use Rattle.std.specs.Prelude.{Option, Some, None, is_some, option_map, unwrap_or}
 use Rattle.std.proofs.lemmas.Bool.Decides.{nat_tests}
+use Rattle.fault_counts.specs.Causes.{counted}
 use Rattle.lease_disk.specs.declared.stop.Stop.TheVariants.{Unarmed}
 use Rattle.lease_disk.specs.Call.{Len, Read, Sync}
 use Rattle.lease_disk.specs.Calls.{Ran}
@@ -9,7 +10,7 @@ use Rattle.lease_disk.specs.Images.{overwritten}
 use Rattle.lease_disk.specs.Past.{content_of, is_pending}
 use Rattle.lease_disk.specs.PastLaws.{content_is_image, still_content}
 use Rattle.lease_disk.specs.Stop.{is_met, stops_within}
-use Rattle.lease_disk.specs.MemDisk.{DiskState, Leads, told_of, left_by, restarted, risen}
+use Rattle.lease_disk.specs.MemDisk.{DiskState, Leads, told_of, left_by, restarted}
 use Rattle.lease_disk.specs.Runs.{IsReadyFor, ran_is, run_stop, opening_is_served}
 use Rattle.leaf_lease.specs.LeaseFile.{head_size, file_size}
 use Rattle.leaf_lease.specs.Leases.{lease_calls}
@@ -63,7 +64,7 @@ is_opened key same next leaf calls disk new rest same_key same_leaf is =
 -- an opening of a disk that is at rest is served
 pub opening_served : (disk new : DiskState) (count : ℕ) (served : Bool) → disk.failing ≡ [] → disk.stop ≡ Unarmed → is_pending disk.past ≡ false
     → Ran Leads disk (Sync ∷ Len ∷ Read 0 count ∷ []) served new
-    → (served ≡ true) × (new ≡ record disk { calls = risen (risen (risen disk.calls)) })
+    → (served ≡ true) × (new ≡ record disk { calls = counted (counted (counted disk.calls)) })
 opening_served disk new count served none unarmed still ran =
     let is = ran_is disk (Sync ∷ Len ∷ Read 0 count ∷ []) served new ran in
     let ends = opening_is_served disk 0 count none unarmed still in

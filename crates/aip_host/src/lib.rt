@@ -26,14 +26,3 @@ pub use aip_rules::Arming;
 pub use guard::{Guard, Obeying};
 pub use host::Host;
 pub use signing::{Signing, SigningKey};
-
-#[cfg(test)]
-mod guard_tests;
-#[cfg(test)]
-mod guarded_tests;
-#[cfg(test)]
-mod host_tests;
-#[cfg(test)]
-mod leaf_tests;
-#[cfg(test)]
-mod tests;

@@ -174,7 +174,7 @@ impl Shelf for MemShelf {
         ensures changes { self.new ≡ record self.old { calls = counted self.old.calls; counts = self.new.counts } }
         ensures counts { OnErr result (faults_under self.new name.now ≡ counted (faults_under self.old name.now)) }
     {
-        self.calls = self.calls.saturating_add(1);
+        self.calls = one_more(self.calls);
         let place = place_of(&self.files, name);
         if is_failing(&self.failing, self.calls, place, self.files.len()) {
             count_fault(&mut self.counts, place);

@@ -120,7 +120,7 @@ impl Sink for MemSink {
         } }
         ensures faults { OnErr result (self.new.faults ≡ counted self.old.faults) }
     {
-        self.calls = self.calls.saturating_add(1);
+        self.calls = one_more(self.calls);
         if is_failing(&self.failing, self.calls, self.taken.len(), self.room) {
             self.faults = one_more(self.faults);
             return Err(Failed);

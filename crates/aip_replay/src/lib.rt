@@ -17,8 +17,6 @@ mod ends;
 mod laws;
 mod lines;
 mod replays;
-#[cfg(test)]
-mod tests;
 mod turns;
 
 pub use ends::ReplayEnd;

@@ -3,10 +3,10 @@ use Rattle.std.proofs.Common.{◌≡◌, ℕ, ◌<◌, ◌^◌, cond, List, Opti
 use Rattle.std.specs.Prelude.{IfSome, decimal}
 use Rattle.std.specs.Option.{option_map}
 use Rattle.std.proofs.lemmas.Option.{cond_some, none-some, same_Some}
-use Rattle.hex.specs.Hex.{IsBytes}
+use Rattle.hex.specs.Hex.{IsBytes, encode_lower}
 use Rattle.aip_addr.specs.Naming.{IsName, is_name}
 use Rattle.aip_addr.specs.declared.ids.Id.{Id}
-use Rattle.aip_text.specs.Fields.{IsId, id_of, id_word, name_of}
+use Rattle.aip_text.specs.Fields.{IsId, IsSized, id_of, id_word, name_of}
 use Rattle.aip_text.specs.Words.{bytes_of, bytes_word, hex_sized, number_of, u64_of}
 use Rattle.aip_text.proofs.HexWords.{bytes_again, bytes_found, hex_sized_again, hex_sized_found}
 use Rattle.aip_text.proofs.Lacking.{lacks-bytes_word, lacks-decimal, lacks-encode_lower, lacks-name, lacks-u64}
@@ -33,22 +33,29 @@ u64_field = record { found = u64_found; again = u64_again; plain = λ n h. lacks
 pub bytes_field : Field bytes_of bytes_word IsBytes
 bytes_field = record { found = bytes_found; again = bytes_again; plain = lacks-bytes_word }
 
+-- so many bytes
+pub sized_field : (n : ℕ) → Field (hex_sized n) encode_lower (IsSized n)
+sized_field n = record { found = found_in; again = λ bytes h. hex_sized_again n bytes h.0 h.1; plain = λ bytes h. lacks-encode_lower 32 bytes refl h.0 }
+  where
+    found_in : (word bytes : List ℕ) → hex_sized n word ≡ Some bytes → IsSized n bytes × (word ≡ encode_lower bytes)
+    found_in word bytes h = let read = hex_sized_found n word bytes h in ((read.0, read.1), read.2)
+
 -- the id of these bytes
 abbrev of_bytes : List ℕ → Id
 of_bytes bytes = record { bytes = bytes }
 
 id_found : (word : List ℕ) (id : Id) → id_of word ≡ Some id → IsId id × (word ≡ id_word id)
-id_found word id h = read (hex_sized 20 word) (λ bytes e. let found = hex_sized_found 20 word bytes e in ((found.1, found.0), found.2)) h
+id_found word id h = read (hex_sized 20 word) (λ bytes e. let found = hex_sized_found 20 word bytes e in ((found.0, found.1), found.2)) h
   where
     read : (o : Option (List ℕ)) → ((bytes : List ℕ) → o ≡ Some bytes → IsId (of_bytes bytes) × (word ≡ id_word (of_bytes bytes))) → option_map of_bytes o ≡ Some id → IsId id × (word ≡ id_word id)
     read None each e = absurd (none-some id e)
     read (Some bytes) each e = subst (λ i. IsId i × (word ≡ id_word i)) (same_Some (of_bytes bytes) id e) (each bytes refl)
 
 id_again : (id : Id) → IsId id → id_of (id_word id) ≡ Some id
-id_again id h = ap (option_map of_bytes) (hex_sized_again 20 id.bytes h.1 h.0)
+id_again id h = ap (option_map of_bytes) (hex_sized_again 20 id.bytes h.0 h.1)
 
 pub id_field : Field id_of id_word IsId
-id_field = record { found = id_found; again = id_again; plain = λ id h. lacks-encode_lower 32 id.bytes refl h.1 }
+id_field = record { found = id_found; again = id_again; plain = λ id h. lacks-encode_lower 32 id.bytes refl h.0 }
 
 -- ## As the readers' clauses say it
 

@@ -20,10 +20,10 @@ bind_some None f y h = absurd (none-some y h)
 
 -- ## Grouping
 
-joined_three : (a b c : List ℕ) → a ++ 32 ∷ (b ++ 32 ∷ c) ≡ a ++ 32 ∷ b ++ 32 ∷ c
+pub joined_three : (a b c : List ℕ) → a ++ 32 ∷ (b ++ 32 ∷ c) ≡ a ++ 32 ∷ b ++ 32 ∷ c
 joined_three a b c = sym (append_assoc a (32 ∷ b) (32 ∷ c))
 
-joined_four : (a b c d : List ℕ) → a ++ 32 ∷ (b ++ 32 ∷ (c ++ 32 ∷ d)) ≡ a ++ 32 ∷ b ++ 32 ∷ c ++ 32 ∷ d
+pub joined_four : (a b c d : List ℕ) → a ++ 32 ∷ (b ++ 32 ∷ (c ++ 32 ∷ d)) ≡ a ++ 32 ∷ b ++ 32 ∷ c ++ 32 ∷ d
 joined_four a b c d =
     ap (λ (r : List ℕ). a ++ 32 ∷ r) (joined_three b c d) ∙ sym (append_assoc a (32 ∷ (b ++ 32 ∷ c)) (32 ∷ d))
     ∙ ap (λ (r : List ℕ). r ++ 32 ∷ d) (joined_three a b c)
@@ -44,20 +44,26 @@ one_found {read = read} {spell = spell} field make P each rest i h =
     let made = same_Some (make p.0) i p.2 in
     subst (λ r. P r i) (sym word.1) (subst (P (spell p.0)) made (each p.0 word.0))
 
-pub two_found : {A B X : Type 0} {ra : List ℕ → Option A} {sa : A → List ℕ} {FA : A → Type 0} {rb : List ℕ → Option B} {sb : B → List ℕ} {FB : B → Type 0}
-    → Field ra sa FA → Field rb sb FB
-    → (make : A → B → X) (P : List ℕ → X → Type 0) → ((x : A) (y : B) → FA x → FB y → P (sa x ++ 32 ∷ sb y) (make x y))
+-- two fields, where the last may have words of its own
+pub two_rest_found : {A B X : Type 0} {ra : List ℕ → Option A} {sa : A → List ℕ} {FA : A → Type 0} → Field ra sa FA → (rb : List ℕ → Option B)
+    → (make : A → B → X) (P : List ℕ → X → Type 0) → ((x : A) (last : List ℕ) (y : B) → FA x → rb last ≡ Some y → P (sa x ++ 32 ∷ last) (make x y))
     → (rest : List ℕ) (i : X) → two_fields ra rb make rest ≡ Some i → P rest i
-two_found {ra = ra} {sa = sa} {rb = rb} {sb = sb} fa fb make P each rest i h =
+two_rest_found {ra = ra} {sa = sa} fa rb make P each rest i h =
     let c = bind_some (cut rest) (λ w. of_two make (ra w.0) (rb w.1)) i h in
     let pa = bind_some (ra c.0.0) _ i c.2 in
     let pb = bind_some (rb c.0.1) _ i pa.2 in
     let wa = fa.found c.0.0 pa.0 pa.1 in
-    let wb = fb.found c.0.1 pb.0 pb.1 in
     let made = same_Some (make pa.0 pb.0) i pb.2 in
-    let whole : rest ≡ sa pa.0 ++ 32 ∷ sb pb.0 =
-    cut_at_found 32 rest c.0 c.1 ∙ ap (λ (w : List ℕ). w ++ 32 ∷ c.0.1) wa.1 ∙ ap (λ (w : List ℕ). sa pa.0 ++ 32 ∷ w) wb.1 in
-    subst (λ r. P r i) (sym whole) (subst (P (sa pa.0 ++ 32 ∷ sb pb.0)) made (each pa.0 pb.0 wa.0 wb.0))
+    let whole : rest ≡ sa pa.0 ++ 32 ∷ c.0.1 = cut_at_found 32 rest c.0 c.1 ∙ ap (λ (w : List ℕ). w ++ 32 ∷ c.0.1) wa.1 in
+    subst (λ r. P r i) (sym whole) (subst (P (sa pa.0 ++ 32 ∷ c.0.1)) made (each pa.0 c.0.1 pb.0 wa.0 pb.1))
+
+pub two_found : {A B X : Type 0} {ra : List ℕ → Option A} {sa : A → List ℕ} {FA : A → Type 0} {rb : List ℕ → Option B} {sb : B → List ℕ} {FB : B → Type 0}
+    → Field ra sa FA → Field rb sb FB
+    → (make : A → B → X) (P : List ℕ → X → Type 0) → ((x : A) (y : B) → FA x → FB y → P (sa x ++ 32 ∷ sb y) (make x y))
+    → (rest : List ℕ) (i : X) → two_fields ra rb make rest ≡ Some i → P rest i
+two_found {sa = sa} {rb = rb} fa fb make P each =
+    two_rest_found fa rb make P
+    (λ x last y hx e. let w = fb.found last y e in subst (λ r. P (sa x ++ 32 ∷ r) (make x y)) (sym w.1) (each x y hx w.0))
 
 pub three_found : {A B C X : Type 0} {ra : List ℕ → Option A} {sa : A → List ℕ} {FA : A → Type 0} {rb : List ℕ → Option B} {sb : B → List ℕ} {FB : B → Type 0}
     {rc : List ℕ → Option C} {sc : C → List ℕ} {FC : C → Type 0} → Field ra sa FA → Field rb sb FB → Field rc sc FC
@@ -83,13 +89,13 @@ three_found {ra = ra} {sa = sa} {rb = rb} {sb = sb} {rc = rc} {sc = sc} fa fb fc
     ∙ ap (λ (r : List ℕ). sa pa.0 ++ 32 ∷ r ++ 32 ∷ w.0.2) wb.1 ∙ ap (λ (r : List ℕ). sa pa.0 ++ 32 ∷ sb pb.0 ++ 32 ∷ r) wc.1 in
     subst (λ r. P r i) (sym whole) (subst (P (sa pa.0 ++ 32 ∷ sb pb.0 ++ 32 ∷ sc pc.0)) made (each pa.0 pb.0 pc.0 wa.0 wb.0 wc.0))
 
-pub four_found : {A B C D X : Type 0} {ra : List ℕ → Option A} {sa : A → List ℕ} {FA : A → Type 0} {rb : List ℕ → Option B} {sb : B → List ℕ} {FB : B → Type 0}
-    {rc : List ℕ → Option C} {sc : C → List ℕ} {FC : C → Type 0} {rd : List ℕ → Option D} {sd : D → List ℕ} {FD : D → Type 0}
-    → Field ra sa FA → Field rb sb FB → Field rc sc FC → Field rd sd FD
+-- four fields, where the last may have words of its own
+pub four_rest_found : {A B C D X : Type 0} {ra : List ℕ → Option A} {sa : A → List ℕ} {FA : A → Type 0} {rb : List ℕ → Option B} {sb : B → List ℕ} {FB : B → Type 0}
+    {rc : List ℕ → Option C} {sc : C → List ℕ} {FC : C → Type 0} → Field ra sa FA → Field rb sb FB → Field rc sc FC → (rd : List ℕ → Option D)
     → (make : A → B → C → D → X) (P : List ℕ → X → Type 0)
-    → ((x : A) (y : B) (z : C) (v : D) → FA x → FB y → FC z → FD v → P (sa x ++ 32 ∷ sb y ++ 32 ∷ sc z ++ 32 ∷ sd v) (make x y z v))
+    → ((x : A) (y : B) (z : C) (last : List ℕ) (v : D) → FA x → FB y → FC z → rd last ≡ Some v → P (sa x ++ 32 ∷ sb y ++ 32 ∷ sc z ++ 32 ∷ last) (make x y z v))
     → (rest : List ℕ) (i : X) → four_fields ra rb rc rd make rest ≡ Some i → P rest i
-four_found {ra = ra} {sa = sa} {rb = rb} {sb = sb} {rc = rc} {sc = sc} {rd = rd} {sd = sd} fa fb fc fd make P each rest i h =
+four_rest_found {ra = ra} {sa = sa} {rb = rb} {sb = sb} {rc = rc} {sc = sc} fa fb fc rd make P each rest i h =
     let w = bind_some (four_words rest) (λ w. of_four make (ra w.0) (rb w.1) (rc w.2) (rd w.3)) i h in
     let c1 = bind_some (cut rest) _ w.0 w.1 in
     let c2 = bind_some (cut c1.0.1) _ w.0 c1.2 in
@@ -102,18 +108,26 @@ four_found {ra = ra} {sa = sa} {rb = rb} {sb = sb} {rc = rc} {sc = sc} {rd = rd}
     let wa = fa.found w.0.0 pa.0 pa.1 in
     let wb = fb.found w.0.1 pb.0 pb.1 in
     let wc = fc.found w.0.2 pc.0 pc.1 in
-    let wd = fd.found w.0.3 pd.0 pd.1 in
     let made = same_Some (make pa.0 pb.0 pc.0 pd.0) i pd.2 in
-    let whole : rest ≡ sa pa.0 ++ 32 ∷ sb pb.0 ++ 32 ∷ sc pc.0 ++ 32 ∷ sd pd.0 =
+    let whole : rest ≡ sa pa.0 ++ 32 ∷ sb pb.0 ++ 32 ∷ sc pc.0 ++ 32 ∷ w.0.3 =
     cut_at_found 32 rest c1.0 c1.1 ∙ ap (λ (r : List ℕ). c1.0.0 ++ 32 ∷ r) (cut_at_found 32 c1.0.1 c2.0 c2.1)
     ∙ ap (λ (r : List ℕ). c1.0.0 ++ 32 ∷ (c2.0.0 ++ 32 ∷ r)) (cut_at_found 32 c2.0.1 c3.0 c3.1)
     ∙ joined_four c1.0.0 c2.0.0 c3.0.0 c3.0.1
     ∙ ap (λ (t : List ℕ × List ℕ × List ℕ × List ℕ). t.0 ++ 32 ∷ t.1 ++ 32 ∷ t.2 ++ 32 ∷ t.3) words
     ∙ ap (λ (r : List ℕ). r ++ 32 ∷ w.0.1 ++ 32 ∷ w.0.2 ++ 32 ∷ w.0.3) wa.1
     ∙ ap (λ (r : List ℕ). sa pa.0 ++ 32 ∷ r ++ 32 ∷ w.0.2 ++ 32 ∷ w.0.3) wb.1
-    ∙ ap (λ (r : List ℕ). sa pa.0 ++ 32 ∷ sb pb.0 ++ 32 ∷ r ++ 32 ∷ w.0.3) wc.1
-    ∙ ap (λ (r : List ℕ). sa pa.0 ++ 32 ∷ sb pb.0 ++ 32 ∷ sc pc.0 ++ 32 ∷ r) wd.1 in
-    subst (λ r. P r i) (sym whole) (subst (P (sa pa.0 ++ 32 ∷ sb pb.0 ++ 32 ∷ sc pc.0 ++ 32 ∷ sd pd.0)) made (each pa.0 pb.0 pc.0 pd.0 wa.0 wb.0 wc.0 wd.0))
+    ∙ ap (λ (r : List ℕ). sa pa.0 ++ 32 ∷ sb pb.0 ++ 32 ∷ r ++ 32 ∷ w.0.3) wc.1 in
+    subst (λ r. P r i) (sym whole) (subst (P (sa pa.0 ++ 32 ∷ sb pb.0 ++ 32 ∷ sc pc.0 ++ 32 ∷ w.0.3)) made (each pa.0 pb.0 pc.0 w.0.3 pd.0 wa.0 wb.0 wc.0 pd.1))
+
+pub four_found : {A B C D X : Type 0} {ra : List ℕ → Option A} {sa : A → List ℕ} {FA : A → Type 0} {rb : List ℕ → Option B} {sb : B → List ℕ} {FB : B → Type 0}
+    {rc : List ℕ → Option C} {sc : C → List ℕ} {FC : C → Type 0} {rd : List ℕ → Option D} {sd : D → List ℕ} {FD : D → Type 0}
+    → Field ra sa FA → Field rb sb FB → Field rc sc FC → Field rd sd FD
+    → (make : A → B → C → D → X) (P : List ℕ → X → Type 0)
+    → ((x : A) (y : B) (z : C) (v : D) → FA x → FB y → FC z → FD v → P (sa x ++ 32 ∷ sb y ++ 32 ∷ sc z ++ 32 ∷ sd v) (make x y z v))
+    → (rest : List ℕ) (i : X) → four_fields ra rb rc rd make rest ≡ Some i → P rest i
+four_found {sa = sa} {sb = sb} {sc = sc} {rd = rd} fa fb fc fd make P each =
+    four_rest_found fa fb fc rd make P
+    (λ x y z last v hx hy hz e. let w = fd.found last v e in subst (λ r. P (sa x ++ 32 ∷ sb y ++ 32 ∷ sc z ++ 32 ∷ r) (make x y z v)) (sym w.1) (each x y z v hx hy hz w.0))
 
 pub five_found : {A B C D E X : Type 0} {ra : List ℕ → Option A} {sa : A → List ℕ} {FA : A → Type 0} {rb : List ℕ → Option B} {sb : B → List ℕ} {FB : B → Type 0}
     {rc : List ℕ → Option C} {sc : C → List ℕ} {FC : C → Type 0} {rd : List ℕ → Option D} {sd : D → List ℕ} {FD : D → Type 0}
@@ -163,12 +177,17 @@ pub one_again : {A X : Type 0} {read : List ℕ → Option A} {spell : A → Lis
     → (make : A → X) (x : A) → Fits x → one_field read make (spell x) ≡ Some (make x)
 one_again field make x fits = bind_at (λ v. Some (make v)) (field.again x fits)
 
+-- two fields, where the last may have words of its own
+pub two_rest_again : {A B X : Type 0} {ra : List ℕ → Option A} {sa : A → List ℕ} {FA : A → Type 0} → Field ra sa FA → (rb : List ℕ → Option B)
+    → (make : A → B → X) (x : A) (last : List ℕ) (y : B) → FA x → rb last ≡ Some y → two_fields ra rb make (sa x ++ 32 ∷ last) ≡ Some (make x y)
+two_rest_again {ra = ra} {sa = sa} fa rb make x last y hx e =
+    bind_at (λ w. of_two make (ra w.0) (rb w.1)) (cut_at_again 32 (sa x) last (fa.plain x hx))
+    ∙ bind_at (λ a. rb last >>= λ b. Some (make a b)) (fa.again x hx) ∙ bind_at (λ b. Some (make x b)) e
+
 pub two_again : {A B X : Type 0} {ra : List ℕ → Option A} {sa : A → List ℕ} {FA : A → Type 0} {rb : List ℕ → Option B} {sb : B → List ℕ} {FB : B → Type 0}
     → Field ra sa FA → Field rb sb FB
     → (make : A → B → X) (x : A) (y : B) → FA x → FB y → two_fields ra rb make (sa x ++ 32 ∷ sb y) ≡ Some (make x y)
-two_again {ra = ra} {sa = sa} {rb = rb} {sb = sb} fa fb make x y hx hy =
-    bind_at (λ w. of_two make (ra w.0) (rb w.1)) (cut_at_again 32 (sa x) (sb y) (fa.plain x hx))
-    ∙ bind_at (λ a. rb (sb y) >>= λ b. Some (make a b)) (fa.again x hx) ∙ bind_at (λ b. Some (make x b)) (fb.again y hy)
+two_again {rb = rb} {sb = sb} fa fb make x y hx hy = two_rest_again fa rb make x (sb y) y hx (fb.again y hy)
 
 three_words_again : (a b c : List ℕ) → lacks 32 a ≡ true → lacks 32 b ≡ true → three_words (a ++ 32 ∷ b ++ 32 ∷ c) ≡ Some (a, b, c)
 three_words_again a b c ha hb =
@@ -208,17 +227,24 @@ three_again {ra = ra} {sa = sa} {rb = rb} {sb = sb} {rc = rc} {sc = sc} fa fb fc
     ∙ bind_at (λ a. rb (sb y) >>= λ b. rc (sc z) >>= λ c. Some (make a b c)) (fa.again x hx)
     ∙ bind_at (λ b. rc (sc z) >>= λ c. Some (make x b c)) (fb.again y hy) ∙ bind_at (λ c. Some (make x y c)) (fc.again z hz)
 
+-- four fields, where the last may have words of its own
+pub four_rest_again : {A B C D X : Type 0} {ra : List ℕ → Option A} {sa : A → List ℕ} {FA : A → Type 0} {rb : List ℕ → Option B} {sb : B → List ℕ} {FB : B → Type 0}
+    {rc : List ℕ → Option C} {sc : C → List ℕ} {FC : C → Type 0} → Field ra sa FA → Field rb sb FB → Field rc sc FC → (rd : List ℕ → Option D)
+    → (make : A → B → C → D → X) (x : A) (y : B) (z : C) (last : List ℕ) (v : D) → FA x → FB y → FC z → rd last ≡ Some v
+    → four_fields ra rb rc rd make (sa x ++ 32 ∷ sb y ++ 32 ∷ sc z ++ 32 ∷ last) ≡ Some (make x y z v)
+four_rest_again {ra = ra} {sa = sa} {rb = rb} {sb = sb} {rc = rc} {sc = sc} fa fb fc rd make x y z last v hx hy hz e =
+    let words = four_words_again (sa x) (sb y) (sc z) last (fa.plain x hx) (fb.plain y hy) (fc.plain z hz) in
+    bind_at (λ w. of_four make (ra w.0) (rb w.1) (rc w.2) (rd w.3)) words
+    ∙ bind_at (λ a. rb (sb y) >>= λ b. rc (sc z) >>= λ c. rd last >>= λ d. Some (make a b c d)) (fa.again x hx)
+    ∙ bind_at (λ b. rc (sc z) >>= λ c. rd last >>= λ d. Some (make x b c d)) (fb.again y hy)
+    ∙ bind_at (λ c. rd last >>= λ d. Some (make x y c d)) (fc.again z hz) ∙ bind_at (λ d. Some (make x y z d)) e
+
 pub four_again : {A B C D X : Type 0} {ra : List ℕ → Option A} {sa : A → List ℕ} {FA : A → Type 0} {rb : List ℕ → Option B} {sb : B → List ℕ} {FB : B → Type 0}
     {rc : List ℕ → Option C} {sc : C → List ℕ} {FC : C → Type 0} {rd : List ℕ → Option D} {sd : D → List ℕ} {FD : D → Type 0}
     → Field ra sa FA → Field rb sb FB → Field rc sc FC → Field rd sd FD
     → (make : A → B → C → D → X) (x : A) (y : B) (z : C) (v : D) → FA x → FB y → FC z → FD v
     → four_fields ra rb rc rd make (sa x ++ 32 ∷ sb y ++ 32 ∷ sc z ++ 32 ∷ sd v) ≡ Some (make x y z v)
-four_again {ra = ra} {sa = sa} {rb = rb} {sb = sb} {rc = rc} {sc = sc} {rd = rd} {sd = sd} fa fb fc fd make x y z v hx hy hz hv =
-    let words = four_words_again (sa x) (sb y) (sc z) (sd v) (fa.plain x hx) (fb.plain y hy) (fc.plain z hz) in
-    bind_at (λ w. of_four make (ra w.0) (rb w.1) (rc w.2) (rd w.3)) words
-    ∙ bind_at (λ a. rb (sb y) >>= λ b. rc (sc z) >>= λ c. rd (sd v) >>= λ d. Some (make a b c d)) (fa.again x hx)
-    ∙ bind_at (λ b. rc (sc z) >>= λ c. rd (sd v) >>= λ d. Some (make x b c d)) (fb.again y hy)
-    ∙ bind_at (λ c. rd (sd v) >>= λ d. Some (make x y c d)) (fc.again z hz) ∙ bind_at (λ d. Some (make x y z d)) (fd.again v hv)
+four_again {rd = rd} {sd = sd} fa fb fc fd make x y z v hx hy hz hv = four_rest_again fa fb fc rd make x y z (sd v) v hx hy hz (fd.again v hv)
 
 pub five_again : {A B C D E X : Type 0} {ra : List ℕ → Option A} {sa : A → List ℕ} {FA : A → Type 0} {rb : List ℕ → Option B} {sb : B → List ℕ} {FB : B → Type 0}
     {rc : List ℕ → Option C} {sc : C → List ℕ} {FC : C → Type 0} {rd : List ℕ → Option D} {sd : D → List ℕ} {FD : D → Type 0}

@@ -27,9 +27,13 @@ id_of word = option_map (λ bytes. record { bytes = bytes }) (hex_sized 20 word)
 abbrev pub id_word : Id → List ℕ
 id_word id = encode_lower id.bytes
 
+-- so many bytes
+abbrev pub IsSized : ℕ → List ℕ → Type 0
+IsSized n bytes = IsBytes bytes × (length bytes ≡ n)
+
 -- an id of 20 bytes
 abbrev pub IsId : Id → Type 0
-IsId id = (length id.bytes ≡ 20) × IsBytes id.bytes
+IsId id = IsSized 20 id.bytes
 
 -- the first value of a table that a word names
 abbrev pub named : {A : Type 0} → (A → List ℕ) → List A → List ℕ → Option A

@@ -103,7 +103,7 @@ host_taken t ps x there few new_d new_r new_h other untaken stands =
     ap (λ o. at (unwrap_or o 0)) there.found ∙ ap (λ id. made_host x.name x.router x.guarded id (key_of from)) (eid_again x.key x.eid stands.4)
     ∙ ap (made_host x.name x.router x.guarded x.eid) (eid_key_again x.key x.eid) in
     record {
-      fits = (stands.0, (there.name, (tt, eid_fits x.key x.eid stands.1 stands.4)));
+      fits = (stands.0, there.name, eid_fits x.key x.eid stands.1 stands.4);
       met =
           record {
             few = lt-leb 1024 (count_by is_host ps) few;
@@ -135,7 +135,7 @@ link_taken t ps x first second few stands =
     let at : ℕ → ℕ → Addition = made_link x.a_trusts x.b_trusts in
     let last : Option ℕ = router_place (router_name rs x.b) rs in
     record {
-      fits = (first.name, (second.name, (tt, tt)));
+      fits = (first.name, second.name);
       met =
           record {
             few = lt-leb 4096 (count_by is_link ps) few;

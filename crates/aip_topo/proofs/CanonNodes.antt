@@ -85,7 +85,7 @@ value_small s value h =
 set_taken : (draft : Draft) (s : Setting) (value : ℕ) → was_set s draft ≡ false → IsInRange (s, value) → Taken draft (form.Set s value) (addition.Set s value)
 set_taken draft s value new ranged =
     record {
-      fits = (tt, value_small s value ranged);
+      fits = value_small s value ranged;
       met = record { few = refl; once = new; known = refl; ranged = ranged; alone = refl };
       makes = refl;
     }
@@ -191,7 +191,7 @@ router_taken s ds rs x few new_d new_r alone stands place known =
     ap (λ o. at (unwrap_or o 0) own (ad_or_zeros (unwrap_or o 0) ds)) place ∙ ap (λ o. at x.domain own (unwrap_or o zeros)) stands.2
     ∙ ap (λ eid. at x.domain eid x.address.ad) (sym stands.3) in
     record {
-      fits = (stands.0, (known, (tt, stands.1)));
+      fits = (stands.0, known, stands.1);
       met =
           record {
             few = lt-leb 256 (length rs) few;

@@ -18,7 +18,8 @@ use Rattle.aip_addr.specs.declared.ids.Id.{Id}
 use Rattle.lms_core.specs.Tree.{identifier_of, key_from, public_key_of}
 use Rattle.lms_core.specs.Tree as lms
 use Rattle.aip_topo.specs.Canonical.{ad_origin, eid_origin}
-use Rattle.aip_topo.specs.Lines.{IsAdOrigin, IsEidOrigin, IsSized}
+use Rattle.aip_topo.specs.Lines.{IsAdOrigin, IsEidOrigin}
+use Rattle.aip_text.specs.Fields.{IsSized}
 use Rattle.aip_topo.specs.Sound.{AreDistinct, IsIdOf, domain_identifiers, has_text, host_identifiers, identifiers_in, identifiers_of}
 use Rattle.aip_topo.specs.Steps.{has_interface, has_version_0, id_from, is_domain_identified, is_host_identified, is_identified, is_key_taken, is_no_ad, is_no_eid, key_of}
 use Rattle.aip_topo.specs.declared.lines.Origin.{Origin}

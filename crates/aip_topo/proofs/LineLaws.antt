@@ -1,70 +1,23 @@
 -- Lines and their spelling: what is read is spelled so, and what is spelled so is read.
-use Rattle.std.proofs.Common.{◌≡◌, ℕ, true, false, List, Option, Some, None, refl, sym, ap, subst, ◌∙◌}
+use Rattle.std.proofs.Common.{◌≡◌, ℕ, true, false, List, Option, Some, None, refl, sym, ap, ◌∙◌}
 use Rattle.std.specs.Prelude.{IfSome, codes, decimal, ⊤}
-use Rattle.std.specs.Option.{option_map}
-use Rattle.std.proofs.lemmas.Option.{none-some, same_Some}
+use Rattle.std.proofs.lemmas.Option.{none-some}
 use Rattle.hex.specs.Hex.{encode_lower}
-use Rattle.aip_addr.specs.Naming.{IsName}
 use Rattle.aip_addr.specs.declared.ids.Id.{Id}
-use Rattle.aip_text.specs.Fields.{id_of, name_of, named, ◌>>=◌}
-use Rattle.aip_text.specs.Words.{cut, hex_sized, lacks, number_of, IsNumber}
-use Rattle.aip_text.proofs.HexWords.{hex_sized_again, hex_sized_found}
-use Rattle.aip_text.proofs.FieldLaws.{name_field, number_field}
-use Rattle.aip_text.proofs.LineForms.{Field, bind_at, bind_some, branch, named_found}
+use Rattle.aip_text.specs.Fields.{IsId, id_of, id_word, named, one_field, ◌>>=◌}
+use Rattle.aip_text.specs.Words.{cut, lacks}
+use Rattle.aip_text.proofs.FieldLaws.{id_field, name_field, number_field, sized_field}
+use Rattle.aip_text.proofs.LineForms.{Field, bind_at, bind_some, branch, four_again, four_found, four_rest_again, four_rest_found, joined_four, joined_three, named_found, one_again, one_found, three_again, three_found, two_again, two_found, two_rest_again, two_rest_found}
 use Rattle.aip_text.proofs.Texts.{cut_at_again, cut_at_found}
 use Rattle.lmots_core.specs.declared.parameters.Width.TheVariants.{W1, W2, W4, W8}
 use Rattle.lms_core.specs.declared.height.Height.TheVariants.{H5, H10}
-use Rattle.aip_topo.specs.Lines.{IsAdOrigin, IsEidOrigin, IsLine, IsSized, ad_words, eid_words, guard_word, height_word, kind_word, line_text, setting_word, trust_word, width_word, ◌␣◌}
-use Rattle.aip_topo.specs.LineReading.{ad_in, ad_seed_in, all_heights, all_settings, all_widths, also, both, domain_in, eid_in, eid_seed_in, host_in, line_by, line_in, link_in, origin_by, router_in, set_in}
+use Rattle.aip_topo.specs.Lines.{IsAdOrigin, IsEidOrigin, IsLine, ad_words, eid_words, guard_word, height_word, kind_word, line_text, setting_word, trust_word, width_word, ◌␣◌}
+use Rattle.aip_topo.specs.LineReading.{ad_in, ad_seed_in, all_heights, all_settings, all_widths, both, domain_in, eid_in, eid_seed_in, host_in, line_by, line_in, link_in, origin_by, router_in, set_in}
 use Rattle.aip_topo.specs.declared.lines.Line.{Line}
 use Rattle.aip_topo.specs.declared.lines.Line.TheVariants as line
 use Rattle.aip_topo.specs.declared.lines.Origin.{Origin}
 use Rattle.aip_topo.specs.declared.lines.Origin.TheVariants as origin
 use Rattle.aip_topo.specs.declared.lines.Setting.TheVariants as setting
-
--- how a text is read, how it is spelled, and which values have a spelling
-record Reads {A : Type 0} (read : List ℕ → Option A) (spell : A → List ℕ) (Fits : A → Type 0) : Type 0 where
-  found : (text : List ℕ) (x : A) → read text ≡ Some x → Fits x × (text ≡ spell x)
-  again : (x : A) → Fits x → read (spell x) ≡ Some x
-
--- a word alone
-alone : {A : Type 0} {read : List ℕ → Option A} {spell : A → List ℕ} {Fits : A → Type 0} → Field read spell Fits → Reads read spell Fits
-alone field = record { found = field.found; again = field.again }
-
--- a word and what follows it
-followed : {A B : Type 0} {ra : List ℕ → Option A} {sa : A → List ℕ} {FA : A → Type 0} {rb : List ℕ → Option B} {sb : B → List ℕ} {FB : B → Type 0}
-    → Field ra sa FA → Reads rb sb FB → Reads (also ra rb) (λ (p : A × B). sa p.0 ␣ sb p.1) (λ (p : A × B). FA p.0 × FB p.1)
-followed {A = A} {B = B} {ra = ra} {sa = sa} {FA = FA} {rb = rb} {sb = sb} {FB = FB} first rest = record { found = found_in; again = again_in }
-  where
-    found_in : (text : List ℕ) (p : A × B) → also ra rb text ≡ Some p → (FA p.0 × FB p.1) × (text ≡ sa p.0 ␣ sb p.1)
-    found_in text p h =
-        let c = bind_some (cut text) (λ w. ra w.0 >>= λ x. rb w.1 >>= λ y. Some (x, y)) p h in
-        let a = bind_some (ra c.0.0) (λ x. rb c.0.1 >>= λ y. Some (x, y)) p c.2 in
-        let b = bind_some (rb c.0.1) (λ y. Some (a.0, y)) p a.2 in
-        let wa = first.found c.0.0 a.0 a.1 in
-        let wb = rest.found c.0.1 b.0 b.1 in
-        let whole : text ≡ sa a.0 ␣ sb b.0 = cut_at_found 32 text c.0 c.1 ∙ ap (λ (w : List ℕ). w ␣ c.0.1) wa.1 ∙ ap (λ (w : List ℕ). sa a.0 ␣ w) wb.1 in
-        let P : A × B → Type 0 = λ q. (FA q.0 × FB q.1) × (text ≡ sa q.0 ␣ sb q.1) in
-        subst P {x = (a.0, b.0)} (same_Some (a.0, b.0) p b.2) ((wa.0, wb.0), whole)
-
-    again_in : (p : A × B) → FA p.0 × FB p.1 → also ra rb (sa p.0 ␣ sb p.1) ≡ Some p
-    again_in p h =
-        bind_at (λ w. ra w.0 >>= λ x. rb w.1 >>= λ y. Some (x, y)) (cut_at_again 32 (sa p.0) (sb p.1) (first.plain p.0 h.0))
-        ∙ bind_at (λ x. rb (sb p.1) >>= λ y. Some (x, y)) (first.again p.0 h.0) ∙ bind_at (λ y. Some (p.0, y)) (rest.again p.1 h.1)
-
--- what a value that is made of another shows
-mapped : {A X : Type 0} (make : A → X) (o : Option A) (y : X) → option_map make o ≡ Some y → (x : A) × (o ≡ Some x) × (make x ≡ y)
-mapped make None y h = absurd (none-some y h)
-mapped make (Some x) y h = (x, refl, same_Some (make x) y h)
-
--- what is made of what is read
-made_found : {A X : Type 0} {read : List ℕ → Option A} {spell : A → List ℕ} {Fits : A → Type 0} → Reads read spell Fits
-    → (make : A → X) (P : List ℕ → X → Type 0) → ((x : A) → Fits x → P (spell x) (make x))
-    → (text : List ℕ) (y : X) → option_map make (read text) ≡ Some y → P text y
-made_found {read = read} {spell = spell} reads make P each text y h =
-    let m = mapped make (read text) y h in
-    let it = reads.found text m.0 m.1 in
-    subst (λ t. P t y) (sym it.1) (subst (P (spell m.0)) m.2 (each m.0 it.0))
 
 -- ## Words
 
@@ -103,33 +56,20 @@ trust_field =
     table_field trust_word both (λ x. elim x as (λ y. named trust_word both (trust_word y) ≡ Some y) [ true ↦ refl | false ↦ refl ])
     (λ x. elim x as (λ y. lacks 32 (trust_word y) ≡ true) [ true ↦ refl | false ↦ refl ])
 
--- so many bytes
-hex_reads : (n : ℕ) → Reads (hex_sized n) encode_lower (IsSized n)
-hex_reads n = record { found = found_in; again = λ bytes h. hex_sized_again n bytes h.0 h.1 }
-  where
-    found_in : (word bytes : List ℕ) → hex_sized n word ≡ Some bytes → IsSized n bytes × (word ≡ encode_lower bytes)
-    found_in word bytes h = let read = hex_sized_found n word bytes h in ((read.0, read.1), read.2)
-
-id_reads : Reads id_of (λ id. encode_lower id.bytes) (λ id. IsSized 20 id.bytes)
-id_reads =
-    record {
-      found = made_found (hex_reads 20) (λ bytes. record { bytes = bytes }) (λ word (id : Id). IsSized 20 id.bytes × (word ≡ encode_lower id.bytes)) (λ bytes h. (h, refl));
-      again = λ id h. ap (option_map (λ bytes. record { bytes = bytes })) ((hex_reads 20).again id.bytes h);
-    }
-
 -- ## How an id is given
 
 -- by the word before: the words of an id, and those of a seed
 by_found : (seed_in : List ℕ → Option Origin) (spell : Origin → List ℕ) (Fits : Origin → Type 0)
-    → ((word : List ℕ) (from : Origin) → option_map (λ id. origin.Given id) (id_of word) ≡ Some from → Fits from × (codes "id" ␣ word ≡ spell from))
+    → ((id : Id) → IsId id → Fits (origin.Given id) × (codes "id" ␣ id_word id ≡ spell (origin.Given id)))
     → ((rest : List ℕ) (from : Origin) → seed_in rest ≡ Some from → Fits from × (codes "seed" ␣ rest ≡ spell from))
     → (text : List ℕ) (from : Origin) → (cut text >>= λ form. origin_by seed_in form.0 form.1) ≡ Some from → Fits from × (text ≡ spell from)
 by_found seed_in spell Fits given seeded text from h =
     let c = bind_some (cut text) (λ form. origin_by seed_in form.0 form.1) from h in
     let rest = c.0.1 in
     let P : List ℕ → Origin → Type 0 = λ form o. Fits o × (form ␣ rest ≡ spell o) in
+    let id_given = one_found id_field (λ id. origin.Given id) (λ word o. Fits o × (codes "id" ␣ word ≡ spell o)) given rest from in
     let read =
-    branch P c.0.0 (codes "id") (option_map (λ id. origin.Given id) (id_of rest)) _ from (given rest from)
+    branch P c.0.0 (codes "id") (one_field id_of (λ id. origin.Given id) rest) _ from id_given
     (branch P c.0.0 (codes "seed") (seed_in rest) None from (seeded rest from) (λ e. absurd (none-some from e))) c.2 in
     (read.0, cut_at_found 32 text c.0 c.1 ∙ read.1)
 
@@ -137,80 +77,73 @@ by_found seed_in spell Fits given seeded text from h =
 by_again : (seed_in : List ℕ → Option Origin) (form rest : List ℕ) → lacks 32 form ≡ true → (cut (form ␣ rest) >>= λ w. origin_by seed_in w.0 w.1) ≡ origin_by seed_in form rest
 by_again seed_in form rest plain = bind_at (λ w. origin_by seed_in w.0 w.1) (cut_at_again 32 form rest plain)
 
-ad_reads : Reads ad_in ad_words IsAdOrigin
-ad_reads = record { found = by_found ad_seed_in ad_words IsAdOrigin given seeded; again = again_in }
+ad_found : (text : List ℕ) (from : Origin) → ad_in text ≡ Some from → IsAdOrigin from × (text ≡ ad_words from)
+ad_found = by_found ad_seed_in ad_words IsAdOrigin (λ id h. (h, refl)) seeded
   where
-    seed_reads : Reads (also (named width_word all_widths) (also (named height_word all_heights) (hex_sized 32)))
-        (λ k. width_word k.0 ␣ height_word k.1.0 ␣ encode_lower k.1.1) (λ k. ⊤ × (⊤ × IsSized 32 k.1.1))
-    seed_reads = followed width_field (followed height_field (hex_reads 32))
-
-    given : (word : List ℕ) (from : Origin) → option_map (λ id. origin.Given id) (id_of word) ≡ Some from → IsAdOrigin from × (codes "id" ␣ word ≡ ad_words from)
-    given = made_found id_reads (λ id. origin.Given id) (λ word from. IsAdOrigin from × (codes "id" ␣ word ≡ ad_words from)) (λ id h. (h, refl))
-
     seeded : (rest : List ℕ) (from : Origin) → ad_seed_in rest ≡ Some from → IsAdOrigin from × (codes "seed" ␣ rest ≡ ad_words from)
-    seeded = made_found seed_reads (λ k. origin.Seed k.0 k.1.0 0 k.1.1) (λ rest from. IsAdOrigin from × (codes "seed" ␣ rest ≡ ad_words from)) (λ k h. ((refl, h.1.1), refl))
+    seeded = three_found width_field height_field (sized_field 32) (λ w t s. origin.Seed w t 0 s) (λ rest from. IsAdOrigin from × (codes "seed" ␣ rest ≡ ad_words from))
+        (λ w t s hw ht hs. ((refl, hs), ap (λ r. codes "seed" ␣ r) (sym (joined_three (width_word w) (height_word t) (encode_lower s)))))
 
-    again_in : (from : Origin) → IsAdOrigin from → ad_in (ad_words from) ≡ Some from
-    again_in (origin.Given id) h = by_again ad_seed_in (codes "id") (encode_lower id.bytes) refl ∙ ap (option_map (λ i. origin.Given i)) (id_reads.again id h)
-    again_in (origin.Seed width height interface seed) h =
-        by_again ad_seed_in (codes "seed") (width_word width ␣ height_word height ␣ encode_lower seed) refl ∙ ap (option_map (λ k. origin.Seed k.0 k.1.0 0 k.1.1)) (seed_reads.again (width, (height, seed)) (tt, (tt, h.1)))
-        ∙ ap (λ i. Some (origin.Seed width height i seed)) (sym h.0)
+ad_again : (from : Origin) → IsAdOrigin from → ad_in (ad_words from) ≡ Some from
+ad_again (origin.Given id) h = by_again ad_seed_in (codes "id") (id_word id) refl ∙ one_again id_field (λ i. origin.Given i) id h
+ad_again (origin.Seed width height interface seed) h =
+    by_again ad_seed_in (codes "seed") (width_word width ␣ height_word height ␣ encode_lower seed) refl
+    ∙ ap ad_seed_in (joined_three (width_word width) (height_word height) (encode_lower seed))
+    ∙ three_again width_field height_field (sized_field 32) (λ w t s. origin.Seed w t 0 s) width height seed tt tt h.1
+    ∙ ap (λ i. Some (origin.Seed width height i seed)) (sym h.0)
 
-eid_reads : Reads eid_in eid_words IsEidOrigin
-eid_reads = record { found = by_found eid_seed_in eid_words IsEidOrigin given seeded; again = again_in }
+eid_found : (text : List ℕ) (from : Origin) → eid_in text ≡ Some from → IsEidOrigin from × (text ≡ eid_words from)
+eid_found = by_found eid_seed_in eid_words IsEidOrigin (λ id h. (h, refl)) seeded
   where
-    seed_reads : Reads (also (named width_word all_widths) (also (named height_word all_heights) (also number_of (hex_sized 32))))
-        (λ k. width_word k.0 ␣ height_word k.1.0 ␣ decimal k.1.1.0 ␣ encode_lower k.1.1.1) (λ k. ⊤ × (⊤ × (IsNumber k.1.1.0 × IsSized 32 k.1.1.1)))
-    seed_reads = followed width_field (followed height_field (followed number_field (hex_reads 32)))
-
-    given : (word : List ℕ) (from : Origin) → option_map (λ id. origin.Given id) (id_of word) ≡ Some from → IsEidOrigin from × (codes "id" ␣ word ≡ eid_words from)
-    given = made_found id_reads (λ id. origin.Given id) (λ word from. IsEidOrigin from × (codes "id" ␣ word ≡ eid_words from)) (λ id h. (h, refl))
-
     seeded : (rest : List ℕ) (from : Origin) → eid_seed_in rest ≡ Some from → IsEidOrigin from × (codes "seed" ␣ rest ≡ eid_words from)
-    seeded = made_found seed_reads (λ k. origin.Seed k.0 k.1.0 k.1.1.0 k.1.1.1) (λ rest from. IsEidOrigin from × (codes "seed" ␣ rest ≡ eid_words from)) (λ k h. (h.1.1, refl))
+    seeded = four_found width_field height_field number_field (sized_field 32) (λ w t i s. origin.Seed w t i s) (λ rest from. IsEidOrigin from × (codes "seed" ␣ rest ≡ eid_words from))
+        (λ w t i s hw ht hi hs. ((hi, hs), ap (λ r. codes "seed" ␣ r) (sym (joined_four (width_word w) (height_word t) (decimal i) (encode_lower s)))))
 
-    again_in : (from : Origin) → IsEidOrigin from → eid_in (eid_words from) ≡ Some from
-    again_in (origin.Given id) h = by_again eid_seed_in (codes "id") (encode_lower id.bytes) refl ∙ ap (option_map (λ i. origin.Given i)) (id_reads.again id h)
-    again_in (origin.Seed width height interface seed) h =
-        by_again eid_seed_in (codes "seed") (width_word width ␣ height_word height ␣ decimal interface ␣ encode_lower seed) refl ∙ ap (option_map (λ k. origin.Seed k.0 k.1.0 k.1.1.0 k.1.1.1)) (seed_reads.again (width, (height, (interface, seed))) (tt, (tt, h)))
+eid_again : (from : Origin) → IsEidOrigin from → eid_in (eid_words from) ≡ Some from
+eid_again (origin.Given id) h = by_again eid_seed_in (codes "id") (id_word id) refl ∙ one_again id_field (λ i. origin.Given i) id h
+eid_again (origin.Seed width height interface seed) h =
+    by_again eid_seed_in (codes "seed") (width_word width ␣ height_word height ␣ decimal interface ␣ encode_lower seed) refl
+    ∙ ap eid_seed_in (joined_four (width_word width) (height_word height) (decimal interface) (encode_lower seed))
+    ∙ four_again width_field height_field number_field (sized_field 32) (λ w t i s. origin.Seed w t i s) width height interface seed tt tt h.0 h.1
 
--- ## Lines
-
-set_reads : Reads (also (named setting_word all_settings) number_of) (λ p. setting_word p.0 ␣ decimal p.1) (λ p. ⊤ × IsNumber p.1)
-set_reads = followed setting_field (alone number_field)
-
-domain_reads : Reads (also name_of ad_in) (λ p. p.0 ␣ ad_words p.1) (λ p. IsName p.0 × IsAdOrigin p.1)
-domain_reads = followed name_field ad_reads
-
-router_reads : Reads (also name_of (also name_of (also (named kind_word both) (hex_sized 32))))
-    (λ p. p.0 ␣ p.1.0 ␣ kind_word p.1.1.0 ␣ encode_lower p.1.1.1) (λ p. IsName p.0 × (IsName p.1.0 × (⊤ × IsSized 32 p.1.1.1)))
-router_reads = followed name_field (followed name_field (followed kind_field (hex_reads 32)))
-
-host_reads : Reads (also name_of (also name_of (also (named guard_word both) eid_in)))
-    (λ p. p.0 ␣ p.1.0 ␣ guard_word p.1.1.0 ␣ eid_words p.1.1.1) (λ p. IsName p.0 × (IsName p.1.0 × (⊤ × IsEidOrigin p.1.1.1)))
-host_reads = followed name_field (followed name_field (followed guard_field eid_reads))
-
-link_reads : Reads (also name_of (also name_of (also (named trust_word both) (named trust_word both))))
-    (λ p. p.0 ␣ p.1.0 ␣ trust_word p.1.1.0 ␣ trust_word p.1.1.1) (λ p. IsName p.0 × (IsName p.1.0 × (⊤ × ⊤)))
-link_reads = followed name_field (followed name_field (followed trust_field (alone trust_field)))
+-- ## What is read is spelled so
 
 -- a well-formed line, whose first word and rest these are
 abbrev IsLineOf : List ℕ → List ℕ → Line → Type 0
 IsLineOf rest word l = IsLine l × (word ␣ rest ≡ line_text l)
 
+set_found : (rest : List ℕ) (l : Line) → set_in rest ≡ Some l → IsLineOf rest (codes "set") l
+unfolding set_in
+set_found = two_found setting_field number_field (λ s value. line.Set s value) (λ r l. IsLineOf r (codes "set") l) (λ s value hs hv. (hv, refl))
+
+domain_found : (rest : List ℕ) (l : Line) → domain_in rest ≡ Some l → IsLineOf rest (codes "domain") l
+unfolding domain_in
+domain_found = two_rest_found name_field ad_in (λ name from. line.Domain name from) (λ r l. IsLineOf r (codes "domain") l)
+    (λ name last from hn e. let read = ad_found last from e in ((hn, read.0), ap (λ r. codes "domain" ␣ name ␣ r) read.1))
+
+router_found : (rest : List ℕ) (l : Line) → router_in rest ≡ Some l → IsLineOf rest (codes "router") l
+unfolding router_in
+router_found = four_found name_field name_field kind_field (sized_field 32) (λ n d k m. line.Router n d k m) (λ r l. IsLineOf r (codes "router") l)
+    (λ n d k m hn hd hk hm. ((hn, hd, hm), ap (λ r. codes "router" ␣ r) (sym (joined_four n d (kind_word k) (encode_lower m)))))
+
+host_found : (rest : List ℕ) (l : Line) → host_in rest ≡ Some l → IsLineOf rest (codes "host") l
+unfolding host_in
+host_found = four_rest_found name_field name_field guard_field eid_in (λ n r g from. line.Host n r g from) (λ r l. IsLineOf r (codes "host") l)
+    (λ n r g last from hn hr hg e. let read = eid_found last from e in
+    ((hn, hr, read.0), ap (λ t. codes "host" ␣ t) (sym (joined_four n r (guard_word g) last)) ∙ ap (λ t. codes "host" ␣ n ␣ r ␣ guard_word g ␣ t) read.1))
+
+link_found : (rest : List ℕ) (l : Line) → link_in rest ≡ Some l → IsLineOf rest (codes "link") l
+unfolding link_in
+link_found = four_found name_field name_field trust_field trust_field (λ a b s t. line.Link a b s t) (λ r l. IsLineOf r (codes "link") l)
+    (λ a b s t ha hb hs ht. ((ha, hb), ap (λ r. codes "link" ␣ r) (sym (joined_four a b (trust_word s) (trust_word t)))))
+
 by_word : (word rest : List ℕ) (l : Line) → line_by word rest ≡ Some l → IsLineOf rest word l
-unfolding set_in domain_in router_in host_in link_in
 by_word word rest l =
-    let set = made_found set_reads (λ p. line.Set p.0 p.1) (λ r m. IsLineOf r (codes "set") m) (λ p h. (h, refl)) rest l in
-    let domain = made_found domain_reads (λ p. line.Domain p.0 p.1) (λ r m. IsLineOf r (codes "domain") m) (λ p h. (h, refl)) rest l in
-    let router = made_found router_reads (λ p. line.Router p.0 p.1.0 p.1.1.0 p.1.1.1) (λ r m. IsLineOf r (codes "router") m) (λ p h. (h, refl)) rest l in
-    let host = made_found host_reads (λ p. line.Host p.0 p.1.0 p.1.1.0 p.1.1.1) (λ r m. IsLineOf r (codes "host") m) (λ p h. (h, refl)) rest l in
-    let link = made_found link_reads (λ p. line.Link p.0 p.1.0 p.1.1.0 p.1.1.1) (λ r m. IsLineOf r (codes "link") m) (λ p h. (h, refl)) rest l in
-    branch (IsLineOf rest) word (codes "set") (set_in rest) _ l set
-    (branch (IsLineOf rest) word (codes "domain") (domain_in rest) _ l domain
-    (branch (IsLineOf rest) word (codes "router") (router_in rest) _ l router
-    (branch (IsLineOf rest) word (codes "host") (host_in rest) _ l host
-    (branch (IsLineOf rest) word (codes "link") (link_in rest) None l link (λ e. absurd (none-some l e))))))
+    branch (IsLineOf rest) word (codes "set") (set_in rest) _ l (set_found rest l)
+    (branch (IsLineOf rest) word (codes "domain") (domain_in rest) _ l (domain_found rest l)
+    (branch (IsLineOf rest) word (codes "router") (router_in rest) _ l (router_found rest l)
+    (branch (IsLineOf rest) word (codes "host") (host_in rest) _ l (host_found rest l)
+    (branch (IsLineOf rest) word (codes "link") (link_in rest) None l (link_found rest l) (λ e. absurd (none-some l e))))))
 
 -- what a text is read as is well formed, and spelled so
 pub line_found : (text : List ℕ) (l : Line) → line_in text ≡ Some l → IsLine l × (text ≡ line_text l)
@@ -220,6 +153,8 @@ line_found text l h =
     let read = by_word c.0.0 c.0.1 l c.2 in
     (read.0, cut_at_found 32 text c.0 c.1 ∙ read.1)
 
+-- ## What is spelled so is read
+
 -- a text is read by its first word
 opened : (word rest : List ℕ) → lacks 32 word ≡ true → line_in (word ␣ rest) ≡ line_by word rest
 unfolding line_in
@@ -228,14 +163,18 @@ opened word rest plain = bind_at (λ w. line_by w.0 w.1) (cut_at_again 32 word r
 -- the spelling of a well-formed line is read as that line
 pub line_again : (l : Line) → IsLine l → line_in (line_text l) ≡ Some l
 unfolding set_in domain_in router_in host_in link_in
-line_again (line.Set s value) h = opened (codes "set") _ refl ∙ ap (option_map (λ p. line.Set p.0 p.1)) (set_reads.again (s, value) h)
-line_again (line.Domain name from) h = opened (codes "domain") _ refl ∙ ap (option_map (λ p. line.Domain p.0 p.1)) (domain_reads.again (name, from) h)
+line_again (line.Set s value) h = opened (codes "set") _ refl ∙ two_again setting_field number_field (λ s n. line.Set s n) s value tt h
+line_again (line.Domain name from) h =
+    opened (codes "domain") _ refl ∙ two_rest_again name_field ad_in (λ n f. line.Domain n f) name (ad_words from) from h.0 (ad_again from h.1)
 line_again (line.Router name domain checking master) h =
-    opened (codes "router") _ refl ∙ ap (option_map (λ p. line.Router p.0 p.1.0 p.1.1.0 p.1.1.1)) (router_reads.again (name, (domain, (checking, master))) h)
+    opened (codes "router") _ refl ∙ ap router_in (joined_four name domain (kind_word checking) (encode_lower master))
+    ∙ four_again name_field name_field kind_field (sized_field 32) (λ n d k m. line.Router n d k m) name domain checking master h.0 h.1 tt h.2
 line_again (line.Host name router guarded from) h =
-    opened (codes "host") _ refl ∙ ap (option_map (λ p. line.Host p.0 p.1.0 p.1.1.0 p.1.1.1)) (host_reads.again (name, (router, (guarded, from))) h)
+    opened (codes "host") _ refl ∙ ap host_in (joined_four name router (guard_word guarded) (eid_words from))
+    ∙ four_rest_again name_field name_field guard_field eid_in (λ n r g f. line.Host n r g f) name router guarded (eid_words from) from h.0 h.1 tt (eid_again from h.2)
 line_again (line.Link a b a_trusts b_trusts) h =
-    opened (codes "link") _ refl ∙ ap (option_map (λ p. line.Link p.0 p.1.0 p.1.1.0 p.1.1.1)) (link_reads.again (a, (b, (a_trusts, b_trusts))) h)
+    opened (codes "link") _ refl ∙ ap link_in (joined_four a b (trust_word a_trusts) (trust_word b_trusts))
+    ∙ four_again name_field name_field trust_field trust_field (λ a b s t. line.Link a b s t) a b a_trusts b_trusts h.0 h.1 tt tt
 
 -- ## As the reader's clauses say it
 

@@ -96,10 +96,10 @@ line_meets draft (line.Domain name from) fits met =
 line_meets draft (line.Router name domain checking master) fits met =
     let t = draft.topology in
     let there = ad_there t.domains _ (known_within (names_domain domain) t.domains met.known) in
-    ((fits.0, fits.1.1.1, there, refl), (leb-false _ _ met.few, met.once))
+    ((fits.0, fits.2, there, refl), (leb-false _ _ met.few, met.once))
 line_meets draft (line.Host name router guarded from) fits met =
     let t = draft.topology in
-    let size = eid_sized from fits.1.1.1 in
+    let size = eid_sized from fits.2 in
     ((fits.0, origin_sized from size met.ranged, known_within (names_router router) t.routers met.known, origin_version from met.ranged, origin_id from size), (leb-false _ _ met.few, met.once))
 line_meets draft (line.Link a b a_trusts b_trusts) fits met =
     let rs = draft.topology.routers in

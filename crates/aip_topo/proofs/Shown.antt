@@ -15,7 +15,8 @@ use Rattle.lmots_core.specs.declared.parameters.Width.{Width}
 use Rattle.lmots_core.specs.declared.parameters.Width.TheVariants as width
 use Rattle.lms_core.specs.declared.height.Height.{Height}
 use Rattle.lms_core.specs.declared.height.Height.TheVariants as height
-use Rattle.aip_topo.specs.Lines.{IsAdOrigin, IsEidOrigin, IsLine, IsSized, ad_words, eid_words, guard_word, height_word, kind_word, line_text, setting_word, trust_word, width_word, ◌␣◌}
+use Rattle.aip_topo.specs.Lines.{IsAdOrigin, IsEidOrigin, IsLine, ad_words, eid_words, guard_word, height_word, kind_word, line_text, setting_word, trust_word, width_word, ◌␣◌}
+use Rattle.aip_text.specs.Fields.{IsSized}
 use Rattle.aip_topo.specs.declared.lines.Line.{Line}
 use Rattle.aip_topo.specs.declared.lines.Line.TheVariants as line
 use Rattle.aip_topo.specs.declared.lines.Origin.{Origin}
@@ -139,7 +140,7 @@ eid_shown (origin.Seed w t interface seed) h =
 pub line_shown : (l : Line) → IsLine l → IsShown 139 (line_text l)
 line_shown (line.Set s value) h =
     let keyword : IsShown 3 (codes "set") = record { printed = refl; short = lit≤ tt } in
-    shown_more 29 139 _ (lit≤ tt) (word_shown 3 25 (codes "set") _ keyword (word_shown 9 15 (setting_word s) (decimal value) (setting_shown s) (number_shown value h.1)))
+    shown_more 29 139 _ (lit≤ tt) (word_shown 3 25 (codes "set") _ keyword (word_shown 9 15 (setting_word s) (decimal value) (setting_shown s) (number_shown value h)))
 line_shown (line.Domain name from) h =
     let keyword : IsShown 6 (codes "domain") = record { printed = refl; short = lit≤ tt } in
     shown_more 116 139 _ (lit≤ tt) (word_shown 6 109 (codes "domain") _ keyword (word_shown 16 92 name _ (name_shown name h.0) (ad_shown from h.1)))
@@ -148,18 +149,18 @@ line_shown (line.Router name domain checking master) h =
     shown_more 114 139 _ (lit≤ tt)
     (word_shown 6 107 (codes "router") _ keyword
     (word_shown 16 90 name _ (name_shown name h.0)
-    (word_shown 16 73 domain _ (name_shown domain h.1.0) (word_shown 8 64 (kind_word checking) _ (kind_shown checking) (hex_shown 32 master h.1.1.1)))))
+    (word_shown 16 73 domain _ (name_shown domain h.1) (word_shown 8 64 (kind_word checking) _ (kind_shown checking) (hex_shown 32 master h.2)))))
 line_shown (line.Host name router guarded from) h =
     let keyword : IsShown 4 (codes "host") = record { printed = refl; short = lit≤ tt } in
     word_shown 4 134 (codes "host") _ keyword
     (word_shown 16 117 name _ (name_shown name h.0)
-    (word_shown 16 100 router _ (name_shown router h.1.0) (word_shown 7 92 (guard_word guarded) _ (guard_shown guarded) (eid_shown from h.1.1.1))))
+    (word_shown 16 100 router _ (name_shown router h.1) (word_shown 7 92 (guard_word guarded) _ (guard_shown guarded) (eid_shown from h.2))))
 line_shown (line.Link a b a_trusts b_trusts) h =
     let keyword : IsShown 4 (codes "link") = record { printed = refl; short = lit≤ tt } in
     shown_more 54 139 _ (lit≤ tt)
     (word_shown 4 49 (codes "link") _ keyword
     (word_shown 16 32 a _ (name_shown a h.0)
-    (word_shown 16 15 b _ (name_shown b h.1.0) (word_shown 7 7 (trust_word a_trusts) _ (trust_shown a_trusts) (trust_shown b_trusts)))))
+    (word_shown 16 15 b _ (name_shown b h.1) (word_shown 7 7 (trust_word a_trusts) _ (trust_shown a_trusts) (trust_shown b_trusts)))))
 
 -- no line is one that is skipped
 pub line_seen : (l : Line) → is_skipped (line_text l) ≡ false

@@ -1,6 +1,7 @@
 pub mod Parts
 pub mod Faults
 pub mod Steps
+pub mod Index
 pub mod Lines
 pub mod LineReading
 pub mod Reading

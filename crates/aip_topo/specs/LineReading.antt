@@ -1,9 +1,8 @@
 -- The line that a text spells, found word by word.
-use Rattle.std.specs.Prelude.{ℕ, Bool, true, false, List, [], ◌∷◌, codes, if◌then◌else◌, Option, Some, None}
-use Rattle.std.specs.Option.{option_map}
+use Rattle.std.specs.Prelude.{ℕ, Bool, true, false, List, [], ◌∷◌, codes, if◌then◌else◌, Option, None}
 use Rattle.std.specs.Str.{bytes_eq}
 use Rattle.aip_text.specs.Words.{number_of, hex_sized, cut}
-use Rattle.aip_text.specs.Fields.{id_of, name_of, named, ◌>>=◌}
+use Rattle.aip_text.specs.Fields.{four_fields, id_of, name_of, named, one_field, three_fields, two_fields, ◌>>=◌}
 use Rattle.lmots_core.specs.declared.parameters.Width.{Width}
 use Rattle.lmots_core.specs.declared.parameters.Width.TheVariants.{W1, W2, W4, W8}
 use Rattle.lms_core.specs.declared.height.Height.{Height}
@@ -33,28 +32,21 @@ all_heights = H5 ∷ H10 ∷ []
 abbrev pub both : List Bool
 both = true ∷ false ∷ []
 
--- a word that is read, a space, and the rest that is read
-abbrev pub also : {A B : Type 0} → (List ℕ → Option A) → (List ℕ → Option B) → List ℕ → Option (A × B)
-also first rest text = do
-  word ← cut text
-  x ← first word.0
-  y ← rest word.1
-  Some (x, y)
-
 -- behind `seed` in a domain's line
 abbrev pub ad_seed_in : List ℕ → Option Origin
 ad_seed_in rest =
-    option_map (λ k. origin.Seed k.0 k.1.0 0 k.1.1) (also (named width_word all_widths) (also (named height_word all_heights) (hex_sized 32)) rest)
+    three_fields (named width_word all_widths) (named height_word all_heights) (hex_sized 32) (λ width height seed. origin.Seed width height 0 seed) rest
 
 -- behind `seed` in a host's line
 abbrev pub eid_seed_in : List ℕ → Option Origin
 eid_seed_in rest =
-    option_map (λ k. origin.Seed k.0 k.1.0 k.1.1.0 k.1.1.1) (also (named width_word all_widths) (also (named height_word all_heights) (also number_of (hex_sized 32))) rest)
+    four_fields (named width_word all_widths) (named height_word all_heights) number_of (hex_sized 32)
+    (λ width height interface seed. origin.Seed width height interface seed) rest
 
 -- an id, or what a seed is read as, by the word before
 abbrev pub origin_by : (List ℕ → Option Origin) → List ℕ → List ℕ → Option Origin
 origin_by seed_in form rest =
-    if bytes_eq form (codes "id") then option_map (λ id. origin.Given id) (id_of rest)
+    if bytes_eq form (codes "id") then one_field id_of (λ id. origin.Given id) rest
     else if bytes_eq form (codes "seed") then seed_in rest
     else None
 
@@ -72,23 +64,23 @@ eid_in text = do
 
 -- behind `set`
 unfoldable pub set_in : List ℕ → Option Line
-set_in rest = option_map (λ p. line.Set p.0 p.1) (also (named setting_word all_settings) number_of rest)
+set_in rest = two_fields (named setting_word all_settings) number_of (λ s value. line.Set s value) rest
 
 -- behind `domain`
 unfoldable pub domain_in : List ℕ → Option Line
-domain_in rest = option_map (λ p. line.Domain p.0 p.1) (also name_of ad_in rest)
+domain_in rest = two_fields name_of ad_in (λ name from. line.Domain name from) rest
 
 -- behind `router`
 unfoldable pub router_in : List ℕ → Option Line
-router_in rest = option_map (λ p. line.Router p.0 p.1.0 p.1.1.0 p.1.1.1) (also name_of (also name_of (also (named kind_word both) (hex_sized 32))) rest)
+router_in rest = four_fields name_of name_of (named kind_word both) (hex_sized 32) (λ name domain checking master. line.Router name domain checking master) rest
 
 -- behind `host`
 unfoldable pub host_in : List ℕ → Option Line
-host_in rest = option_map (λ p. line.Host p.0 p.1.0 p.1.1.0 p.1.1.1) (also name_of (also name_of (also (named guard_word both) eid_in)) rest)
+host_in rest = four_fields name_of name_of (named guard_word both) eid_in (λ name router guarded from. line.Host name router guarded from) rest
 
 -- behind `link`
 unfoldable pub link_in : List ℕ → Option Line
-link_in rest = option_map (λ p. line.Link p.0 p.1.0 p.1.1.0 p.1.1.1) (also name_of (also name_of (also (named trust_word both) (named trust_word both))) rest)
+link_in rest = four_fields name_of name_of (named trust_word both) (named trust_word both) (λ a b a_trusts b_trusts. line.Link a b a_trusts b_trusts) rest
 
 -- the line, by its first word
 abbrev pub line_by : List ℕ → List ℕ → Option Line

@@ -1,8 +1,9 @@
 -- The lines of a topology: what they say, and how each is spelled.
-use Rattle.std.specs.Prelude.{◌≡◌, ℕ, ◌<◌, ◌^◌, Bool, true, false, List, ◌∷◌, ◌++◌, length, codes, decimal, ⊤}
-use Rattle.hex.specs.Hex.{IsBytes, encode_lower}
+use Rattle.std.specs.Prelude.{◌≡◌, ℕ, Bool, true, false, List, ◌∷◌, ◌++◌, codes, decimal}
+use Rattle.hex.specs.Hex.{encode_lower}
 use Rattle.aip_addr.specs.Naming.{IsName}
 use Rattle.aip_text.specs.Words.{IsNumber}
+use Rattle.aip_text.specs.Fields.{IsId, IsSized}
 use Rattle.lmots_core.specs.declared.parameters.Width.{Width}
 use Rattle.lmots_core.specs.declared.parameters.Width.TheVariants.{W1, W2, W4, W8}
 use Rattle.lms_core.specs.declared.height.Height.{Height}
@@ -82,24 +83,20 @@ line_text (line.Link a b a_trusts b_trusts) = codes "link" ␣ a ␣ b ␣ trust
 
 -- ## What a line may say
 
--- so many bytes
-abbrev pub IsSized : ℕ → List ℕ → Type 0
-IsSized n bytes = IsBytes bytes × (length bytes ≡ n)
-
 -- an id of 20 bytes, or a seed of 32 bytes for a domain, whose interface is 0
 abbrev pub IsAdOrigin : Origin → Type 0
-IsAdOrigin (origin.Given id) = IsSized 20 id.bytes
+IsAdOrigin (origin.Given id) = IsId id
 IsAdOrigin (origin.Seed _ _ interface seed) = (interface ≡ 0) × IsSized 32 seed
 
 -- an id of 20 bytes, or a seed of 32 bytes with a number as interface
 abbrev pub IsEidOrigin : Origin → Type 0
-IsEidOrigin (origin.Given id) = IsSized 20 id.bytes
+IsEidOrigin (origin.Given id) = IsId id
 IsEidOrigin (origin.Seed _ _ interface seed) = IsNumber interface × IsSized 32 seed
 
 -- a line whose names are names, whose numbers are numbers, and whose ids, seeds and secrets have their sizes
 abbrev pub IsLine : Line → Type 0
-IsLine (line.Set _ value) = ⊤ × IsNumber value
+IsLine (line.Set _ value) = IsNumber value
 IsLine (line.Domain name from) = IsName name × IsAdOrigin from
-IsLine (line.Router name domain _ master) = IsName name × (IsName domain × (⊤ × IsSized 32 master))
-IsLine (line.Host name router _ from) = IsName name × (IsName router × (⊤ × IsEidOrigin from))
-IsLine (line.Link a b _ _) = IsName a × (IsName b × (⊤ × ⊤))
+IsLine (line.Router name domain _ master) = IsName name × IsName domain × IsSized 32 master
+IsLine (line.Host name router _ from) = IsName name × IsName router × IsEidOrigin from
+IsLine (line.Link a b _ _) = IsName a × IsName b

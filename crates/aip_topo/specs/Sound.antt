@@ -7,7 +7,7 @@ use Rattle.aip_addr.specs.Naming.{IsName}
 use Rattle.aip_addr.specs.declared.ids.Id.{Id}
 use Rattle.lms_core.specs.Tree.{identifier_of, public_key_of}
 use Rattle.aip_topo.specs.Canonical.{values_of}
-use Rattle.aip_topo.specs.Lines.{IsSized}
+use Rattle.aip_text.specs.Fields.{IsId, IsSized}
 use Rattle.aip_topo.specs.Steps.{ad_at, has_interface, has_version_0, is_host, is_link, is_out_of_range}
 use Rattle.aip_topo.specs.declared.lines.Setting.{Setting}
 use Rattle.aip_topo.specs.declared.lines.Line.TheVariants as line
@@ -77,7 +77,7 @@ IsIdOf (key.Made k) id = IsSized 32 k.seed × (id ≡ id_of_key (public_key_of k
 -- a domain with a name and an id that is in range, which is its key's
 abbrev pub IsDomain : Domain → Type 0
 IsDomain domain =
-    IsName domain.name × IsSized 20 domain.ad.bytes × (has_version_0 domain.ad ≡ false)
+    IsName domain.name × IsId domain.ad × (has_version_0 domain.ad ≡ false)
     × (has_interface domain.ad ≡ false) × IsIdOf domain.key domain.ad
 
 -- a router of one of the domains, with that domain's id and the id of its own name
@@ -89,7 +89,7 @@ IsRouterOf domains router =
 -- routers to another
 abbrev pub IsPartOf : ℕ → Part → Type 0
 IsPartOf routers (part.Host host) =
-    IsName host.name × IsSized 20 host.eid.bytes × (host.router < routers) × (has_version_0 host.eid ≡ false)
+    IsName host.name × IsId host.eid × (host.router < routers) × (has_version_0 host.eid ≡ false)
     × IsIdOf host.key host.eid
 IsPartOf routers (part.Link link) =
     (link.a < routers) × (link.b < routers) × ((link.a == link.b) ≡ false)

@@ -1,10 +1,10 @@
 ghost use Rattle.std.specs.Prelude.{◌≡◌, false, IfOk, unwrap_or};
 ghost use Rattle.std.specs.List.{list_any};
-ghost use Rattle.aip_topo.specs.Steps.{ad_or_zeros, domain_place, addition_of, has_ad, has_eid, has_key_id, id_from, is_domain_identified, is_host_identified, is_identified, is_key_taken, is_no_ad, is_no_eid, is_out_of_range, is_twin, key_of, router_at, router_place};
+ghost use Rattle.aip_topo.specs.Steps.{ad_or_zeros, addition_of, has_ad, has_eid, id_from, is_domain_identified, is_host_identified, is_identified, is_key_taken, is_no_ad, is_no_eid, is_out_of_range, is_twin, key_of, router_from, router_place};
 
-use crate::judging::{domain_place, router_place};
+use crate::indexed::IndexedDraft;
 use crate::lines::{Line, Origin, Setting};
-use crate::lists::{Domains, Routers};
+use crate::lists::Domains;
 use crate::topology::{Domain, HostPart, Key, LinkPart, Part, Router, Topology};
 use aip_addr::{Address, Id, Name};
 use lms_core::Tree;
@@ -83,41 +83,41 @@ fn domain_of(alloc: Global, name: Name, origin: &Origin) -> Result<Domain, Alloc
 }
 
 fn router_of(
-    domains: &Domains,
+    draft: &IndexedDraft,
     name: &Name,
     domain: &Name,
     checking: bool,
     master: &[u8; 32],
 ) -> Router
-    ensures { result ≡ router_at (unwrap_or (domain_place domain.now domains.now) 0) domains.now name.now checking master.now }
+    ensures { result ≡ router_from draft.now.topology.domains name.now domain.now checking master.now }
 {
-    let place = domain_place(domains, domain).unwrap_or(0);
+    let place = draft.domain_place(domain).unwrap_or(0);
     Router {
         name: *name,
         domain: place,
         checking,
         master: *master,
         address: Address {
-            ad: ad_or_zeros(domains, place),
+            ad: ad_or_zeros(&draft.topology().domains, place),
             eid: Id::of_router(name),
         },
     }
 }
 
-fn router_or_first(routers: &Routers, name: &Name) -> u16
-    ensures { result ≡ unwrap_or (router_place name.now routers.now) 0 }
+fn router_or_first(draft: &IndexedDraft, name: &Name) -> u16
+    ensures { result ≡ unwrap_or (router_place name.now draft.now.topology.routers) 0 }
 {
-    router_place(routers, name).unwrap_or(0)
+    draft.router_place(name).unwrap_or(0)
 }
 
 // What the line adds. The only error is want of memory.
 pub(crate) fn addition_of(
     alloc: Global,
-    topology: &Topology,
+    draft: &IndexedDraft,
     line: &Line,
 ) -> Result<Addition, AllocError>
     requires { is_out_of_range line.now ≡ false }
-    ensures { IfOk result (λ addition. addition ≡ addition_of topology.now line.now) }
+    ensures { IfOk result (λ addition. addition ≡ addition_of draft.now.topology line.now) }
 {
     match line {
         Line::Set { setting, value } => Ok(Addition::Set {
@@ -130,7 +130,7 @@ pub(crate) fn addition_of(
             domain,
             checking,
             master,
-        } => Ok(Addition::Router(router_of(&topology.domains, name, domain, *checking, master))),
+        } => Ok(Addition::Router(router_of(draft, name, domain, *checking, master))),
         Line::Host {
             name,
             router,
@@ -140,7 +140,7 @@ pub(crate) fn addition_of(
             let keyed = keyed(alloc, origin)?;
             Ok(Addition::Part(Part::Host(HostPart {
                 name: *name,
-                router: router_or_first(&topology.routers, router),
+                router: router_or_first(draft, router),
                 guarded: *guarded,
                 eid: keyed.id,
                 key: keyed.key,
@@ -152,8 +152,8 @@ pub(crate) fn addition_of(
             a_trusts,
             b_trusts,
         } => Ok(Addition::Part(Part::Link(LinkPart {
-            a: router_or_first(&topology.routers, a),
-            b: router_or_first(&topology.routers, b),
+            a: router_or_first(draft, a),
+            b: router_or_first(draft, b),
             a_trusts: *a_trusts,
             b_trusts: *b_trusts,
         }))),
@@ -170,21 +170,6 @@ fn is_eid_taken(routers: &[Router], eid: &Id) -> bool
     ensures { result ≡ list_any (has_eid eid.now) routers.now }
 {
     routers.iter().any(|r| r.address.eid.bytes == eid.bytes)
-}
-
-fn has_key_id(part: &Part, eid: &Id) -> bool
-    ensures { result ≡ has_key_id eid.now part.now }
-{
-    match part {
-        Part::Host(host) => host.eid.key_id().bytes == eid.key_id().bytes,
-        Part::Link(_) => false,
-    }
-}
-
-fn is_key_id_taken(parts: &[Part], eid: &Id) -> bool
-    ensures { result ≡ list_any (has_key_id eid.now) parts.now }
-{
-    parts.iter().any(|p| has_key_id(p, eid))
 }
 
 // Whether the key was made and has this identifier.
@@ -231,21 +216,21 @@ fn is_key_taken(topology: &Topology, key: &Key) -> bool
     }
 }
 
-fn is_part_twin(topology: &Topology, part: &Part) -> bool
-    ensures { result ≡ is_twin topology.now (Addition.Part part.now) }
+fn is_part_twin(draft: &IndexedDraft, part: &Part) -> bool
+    ensures { result ≡ is_twin draft.now.topology (Addition.Part part.now) }
 {
     match part {
         Part::Host(host) => {
-            is_key_id_taken(topology.parts.as_slice(), &host.eid)
-                || is_key_taken(topology, &host.key)
+            draft.is_key_id_taken(&host.eid) || is_key_taken(draft.topology(), &host.key)
         }
         Part::Link(_) => false,
     }
 }
 
-pub(crate) fn is_twin(topology: &Topology, addition: &Addition) -> bool
-    ensures { result ≡ is_twin topology.now addition.now }
+pub(crate) fn is_twin(draft: &IndexedDraft, addition: &Addition) -> bool
+    ensures { result ≡ is_twin draft.now.topology addition.now }
 {
+    let topology = draft.topology();
     match addition {
         Addition::Set { .. } => false,
         Addition::Domain(domain) => {
@@ -253,6 +238,6 @@ pub(crate) fn is_twin(topology: &Topology, addition: &Addition) -> bool
                 || is_key_taken(topology, &domain.key)
         }
         Addition::Router(router) => is_eid_taken(topology.routers.as_slice(), &router.address.eid),
-        Addition::Part(part) => is_part_twin(topology, part),
+        Addition::Part(part) => is_part_twin(draft, part),
     }
 }

@@ -13,6 +13,7 @@
 
 mod additions;
 mod faults;
+mod indexed;
 mod judging;
 mod line_reader;
 mod lines;

@@ -7,7 +7,7 @@ use crate::lines::{Line, Origin};
 use crate::words::{
     guard_named, height_named, kind_named, setting_named, trust_named, width_named,
 };
-use aip_text::{cut, read_hex_array, read_id, read_name, read_number};
+use aip_text::{cut, four_words, read_hex_array, read_id, read_name, read_number, three_words};
 
 /// The line that a text spells, without its line feed, and None where it spells no line of a
 /// topology.
@@ -60,9 +60,8 @@ fn set_in(rest: &[u8]) -> Option<Line>
 fn ad_seed_in(rest: &[u8]) -> Option<Origin>
     ensures { result ≡ ad_seed_in rest.now }
 {
-    let (width, rest) = cut(rest)?;
+    let (width, height, seed) = three_words(rest)?;
     let width = width_named(width)?;
-    let (height, seed) = cut(rest)?;
     let height = height_named(height)?;
     let seed = read_hex_array(seed)?;
     Some(Origin::Seed {
@@ -77,11 +76,9 @@ fn ad_seed_in(rest: &[u8]) -> Option<Origin>
 fn eid_seed_in(rest: &[u8]) -> Option<Origin>
     ensures { result ≡ eid_seed_in rest.now }
 {
-    let (width, rest) = cut(rest)?;
+    let (width, height, interface, seed) = four_words(rest)?;
     let width = width_named(width)?;
-    let (height, rest) = cut(rest)?;
     let height = height_named(height)?;
-    let (interface, seed) = cut(rest)?;
     let interface = read_number(interface)?;
     let seed = read_hex_array(seed)?;
     Some(Origin::Seed {
@@ -134,11 +131,9 @@ fn domain_in(rest: &[u8]) -> Option<Line>
 fn router_in(rest: &[u8]) -> Option<Line>
     ensures { result ≡ router_in rest.now }
 {
-    let (name, rest) = cut(rest)?;
+    let (name, domain, kind, master) = four_words(rest)?;
     let name = read_name(name)?;
-    let (domain, rest) = cut(rest)?;
     let domain = read_name(domain)?;
-    let (kind, master) = cut(rest)?;
     let checking = kind_named(kind)?;
     let master = read_hex_array(master)?;
     Some(Line::Router {
@@ -153,11 +148,9 @@ fn router_in(rest: &[u8]) -> Option<Line>
 fn host_in(rest: &[u8]) -> Option<Line>
     ensures { result ≡ host_in rest.now }
 {
-    let (name, rest) = cut(rest)?;
+    let (name, router, guard, from) = four_words(rest)?;
     let name = read_name(name)?;
-    let (router, rest) = cut(rest)?;
     let router = read_name(router)?;
-    let (guard, from) = cut(rest)?;
     let guarded = guard_named(guard)?;
     let origin = eid_in(from)?;
     Some(Line::Host {
@@ -172,11 +165,9 @@ fn host_in(rest: &[u8]) -> Option<Line>
 fn link_in(rest: &[u8]) -> Option<Line>
     ensures { result ≡ link_in rest.now }
 {
-    let (a, rest) = cut(rest)?;
+    let (a, b, first, second) = four_words(rest)?;
     let a = read_name(a)?;
-    let (b, rest) = cut(rest)?;
     let b = read_name(b)?;
-    let (first, second) = cut(rest)?;
     let a_trusts = trust_named(first)?;
     let b_trusts = trust_named(second)?;
     Some(Line::Link {

@@ -2,13 +2,13 @@ ghost use Rattle.std.specs.Prelude.{◌≡◌, ◌<◌, ◌≤◌, ◌+◌, ℕ,
 ghost use Rattle.aip_text.specs.Lines.{lines_of};
 ghost use Rattle.aip_topo.specs.Meaning.{IsSaid};
 ghost use Rattle.aip_topo.specs.Sound.{IsSound};
-ghost use Rattle.aip_topo.specs.Reading.{Tells, empty_draft, is_long, topology_of, with_lines, with_text, most_text};
+ghost use Rattle.aip_topo.specs.Reading.{Tells, is_long, topology_of, with_lines, with_text, most_text};
 
 use crate::faults::{TopoEnd, TopoFault};
+use crate::indexed::IndexedDraft;
 use crate::line_reader::read_line;
-use crate::lists::{Domains, Parts, Routers};
-use crate::steps::{Draft, refused, take};
-use crate::topology::{Settings, Topology};
+use crate::steps::{refused, take};
+use crate::topology::Topology;
 use aip_text::{MOST_LINE_BYTES, has_carriage_return, is_skipped, next_line};
 use std::alloc::Global;
 
@@ -36,62 +36,38 @@ fn read_exactly(alloc: Global, text: &[u8]) -> Result<Topology, TopoEnd>
     ensures found { IfOk result (λ topology. topology_of text.now ≡ Ok topology) }
     ensures refused { IfErr result (λ end. Tells end (topology_of text.now)) }
 {
-    let mut draft = new_draft(alloc);
-    read_lines(alloc, &mut draft, text)?;
-    let Draft { topology, .. } = draft;
-    Ok(topology)
+    let draft = read_lines(alloc, IndexedDraft::new(alloc), text)?;
+    Ok(draft.into_topology())
 }
 
-fn new_draft(alloc: Global) -> Draft
-    ensures { result ≡ empty_draft }
+fn read_lines(alloc: Global, begun: IndexedDraft, text: &[u8]) -> Result<IndexedDraft, TopoEnd>
+    ensures ok { IfOk result (λ last. with_lines (length text.now) 1 0 begun (lines_of text.now) ≡ Ok last) }
+    ensures err { IfErr result (λ end. Tells end (with_lines (length text.now) 1 0 begun (lines_of text.now))) }
 {
-    Draft {
-        topology: Topology {
-            settings: Settings {
-                accept: 600,
-                cache: 64,
-                epoch: 60,
-                filter: 16,
-                log: 128,
-                threshold: 8,
-                wild: 600,
-                wildcache: 8,
-            },
-            domains: Domains::new(alloc),
-            routers: Routers::new(alloc),
-            parts: Parts::new(alloc),
-        },
-        given: [false; 8],
-    }
-}
-
-fn read_lines(alloc: Global, draft: &mut Draft, text: &[u8]) -> Result<(), TopoEnd>
-    ensures ok { OnOk result (with_lines (length text.now) 1 0 draft.old (lines_of text.now) ≡ Ok draft.new) }
-    ensures err { IfErr result (λ end. Tells end (with_lines (length text.now) 1 0 draft.old (lines_of text.now))) }
-{
+    let mut draft = begun;
     let mut rest = text;
     let mut number = 1;
     let mut start = 0;
     'lines: while let Some(first) = next_line(rest) {
         let after = start + first.line.len() + 1;
-        read_text(alloc, draft, number, after.min(text.len()), first.line)?;
+        draft = read_text(alloc, draft, number, after.min(text.len()), first.line)?;
         rest = first.rest;
         number += 1;
         start = after;
     }
-    Ok(())
+    Ok(draft)
 }
 
 // Reads the line of this number, which ends at this place of the text.
 fn read_text(
     alloc: Global,
-    draft: &mut Draft,
+    draft: IndexedDraft,
     number: u32,
     ending: usize,
     text: &[u8],
-) -> Result<(), TopoEnd>
-    ensures ok { OnOk result (with_text number ending draft.old text.now ≡ Ok draft.new) }
-    ensures err { IfErr result (λ end. Tells end (with_text number ending draft.old text.now)) }
+) -> Result<IndexedDraft, TopoEnd>
+    ensures ok { IfOk result (λ next. with_text number ending draft text.now ≡ Ok next) }
+    ensures err { IfErr result (λ end. Tells end (with_text number ending draft text.now)) }
     ensures short { OnOk result (ending ≤ most_text) }
 {
     if is_long(ending, text) {
@@ -101,7 +77,7 @@ fn read_text(
         return Err(refused(number, TopoFault::Form));
     }
     if is_skipped(text) {
-        return Ok(());
+        return Ok(draft);
     }
     match read_line(text) {
         None => Err(refused(number, TopoFault::Form)),

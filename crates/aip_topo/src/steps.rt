@@ -1,13 +1,14 @@
-ghost use Rattle.std.specs.Prelude.{◌≡◌, ◌<◌, ◌≤◌, IfErr, IsTrue, OnOk};
+ghost use Rattle.std.specs.Prelude.{◌≡◌, ◌<◌, ◌≤◌, IfErr, IfOk};
 ghost use Rattle.aip_topo.specs.Reading.{Tells, at_line};
-ghost use Rattle.aip_topo.specs.Steps.{draft_with, fits, most_of, with_line, with_setting};
+ghost use Rattle.aip_topo.specs.Steps.{most_of, with_line, with_setting};
 
-use crate::additions::{Addition, addition_of, is_twin};
+use crate::additions::{addition_of, is_twin};
 use crate::faults::{TopoEnd, TopoFault};
+use crate::indexed::IndexedDraft;
 use crate::judging::{is_many, is_out_of_range, is_twice, is_unknown};
 use crate::lines::{Line, Setting};
 use crate::topology::{Settings, Topology};
-use std::alloc::{AllocError, Global};
+use std::alloc::Global;
 
 /// A topology as far as its text was read.
 #[derive(Drop)]
@@ -50,7 +51,8 @@ impl Setting {
     }
 }
 
-fn with_setting(settings: Settings, setting: Setting, value: u64) -> Settings
+// The settings with this one at this value.
+pub(crate) fn with_setting(settings: Settings, setting: Setting, value: u64) -> Settings
     requires { value ≤ most_of setting }
     ensures { result ≡ with_setting setting value settings }
 {
@@ -90,56 +92,39 @@ fn with_setting(settings: Settings, setting: Setting, value: u64) -> Settings
     }
 }
 
-// Takes the line of this number into the draft, unless one of Many, Twice, Unknown, Range and Twin,
-// in this order, applies to it.
+// The draft with the line of this number, unless one of Many, Twice, Unknown, Range and Twin, in this
+// order, applies to it.
 pub(crate) fn take(
     alloc: Global,
-    draft: &mut Draft,
+    draft: IndexedDraft,
     number: u32,
     line: &Line,
-) -> Result<(), TopoEnd>
-    ensures ok { OnOk result (with_line draft.old line.now ≡ Ok draft.new) }
-    ensures err { IfErr result (λ end. Tells end (at_line number (with_line draft.old line.now))) }
+) -> Result<IndexedDraft, TopoEnd>
+    ensures ok { IfOk result (λ next. with_line draft line.now ≡ Ok next) }
+    ensures err { IfErr result (λ end. Tells end (at_line number (with_line draft line.now))) }
 {
-    if is_many(&draft.topology, line) {
+    if is_many(draft.topology(), line) {
         return Err(refused(number, TopoFault::Many));
     }
-    if is_twice(draft, line) {
+    if is_twice(&draft, line) {
         return Err(refused(number, TopoFault::Twice));
     }
-    if is_unknown(&draft.topology, line) {
+    if is_unknown(&draft, line) {
         return Err(refused(number, TopoFault::Unknown));
     }
     if is_out_of_range(line) {
         return Err(refused(number, TopoFault::Range));
     }
-    let addition = addition_of(alloc, &draft.topology, line)?;
-    if is_twin(&draft.topology, &addition) {
+    let addition = addition_of(alloc, &draft, line)?;
+    if is_twin(&draft, &addition) {
         return Err(refused(number, TopoFault::Twin));
     }
-    add(draft, addition)?;
-    Ok(())
+    let next = draft.with(addition)?;
+    Ok(next)
 }
 
 pub(crate) fn refused(line: u32, fault: TopoFault) -> TopoEnd
     ensures { result ≡ TopoEnd.Line line fault }
 {
     TopoEnd::Line { line, fault }
-}
-
-// Adds to the draft what a line gave. The only error is want of memory.
-fn add(draft: &mut Draft, addition: Addition) -> Result<(), AllocError>
-    requires { IsTrue (fits draft.old.topology addition) }
-    ensures { OnOk result (draft.new ≡ draft_with draft.old addition) }
-{
-    match addition {
-        Addition::Set { setting, value } => {
-            draft.topology.settings = with_setting(draft.topology.settings, setting, value);
-            draft.given[setting.place()] = true;
-        }
-        Addition::Domain(domain) => draft.topology.domains.push(domain)?,
-        Addition::Router(router) => draft.topology.routers.push(router)?,
-        Addition::Part(part) => draft.topology.parts.push(part)?,
-    }
-    Ok(())
 }

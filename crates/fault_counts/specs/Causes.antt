@@ -1,9 +1,9 @@
 -- What a count of faults says of an answer, whatever else is told.
-use Rattle.std.specs.Prelude.{◌≡◌, ℕ, ◌+◌, ◌-◌, ◌^◌, ◌≤◌, min}
+use Rattle.std.specs.Prelude.{◌≡◌, ℕ, ◌+◌, ◌-◌, ◌^◌, ◌≤◌, nat_lt, if◌then◌else◌}
 
 -- a count after one more: it stays at the greatest number of 64 bits once it is there
 abbrev pub counted : ℕ → ℕ
-counted count = min (count + 1) (2 ^ 64 - 1)
+counted count = if nat_lt count (2 ^ 64 - 1) then count + 1 else count
 
 -- a count of faults rose, or stands at the greatest value that it can have
 abbrev pub Rose : ℕ → ℕ → Type 0

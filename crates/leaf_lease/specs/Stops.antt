@@ -1,6 +1,7 @@
 -- Leases on a disk in memory that stops.
 use Rattle.std.proofs.Common.{◌≡◌, ℕ, ◌+◌, ◌^◌, ◌<◌, ◌≤◌, Bool, true, false, not, ◌||◌, if◌then◌else◌, List, [], ◌∷◌, length, replicate, refl, sym, ◌∙◌, ap, subst, arith, length-append}
 use Rattle.std.proofs.lemmas.List.{length-replicate}
+use Rattle.fault_counts.specs.Causes.{counted}
 use Rattle.lease_disk.specs.declared.stop.Stop.{Stop}
 use Rattle.lease_disk.specs.declared.stop.Stop.TheVariants.{Unarmed, Armed, Met}
 use Rattle.lease_disk.specs.Call.{Len, Read, Sync}
@@ -8,7 +9,7 @@ use Rattle.lease_disk.specs.Calls.{Ran}
 use Rattle.lease_disk.specs.Images.{overwritten}
 use Rattle.lease_disk.specs.Past.{Wrote, Synced, content_of, is_pending}
 use Rattle.lease_disk.specs.Stop.{is_met, is_stopping, stop_after, stops_within}
-use Rattle.lease_disk.specs.MemDisk.{DiskState, Leads, new_disk, risen, restarted}
+use Rattle.lease_disk.specs.MemDisk.{DiskState, Leads, new_disk, restarted}
 use Rattle.lease_disk.specs.Runs.{IsReadyFor, is_run_served, after_run, ran_is, run_past, run_stop, falls_at_stop, opening_is_served, firm_write_stops}
 use Rattle.leaf_lease.specs.LeaseFile.{file_size, head_size, fresh_rest}
 use Rattle.leaf_lease.specs.Format.{format_calls}
@@ -77,7 +78,7 @@ served_lease disk new leaf served ready goes_on ran =
 
 -- An opening after a restart is served, and makes no entry, since nothing is pending then.
 pub opened_once_restarted : (disk new : DiskState) (count : ℕ) (served : Bool) → disk.failing ≡ [] → Ran Leads (restarted disk) (Sync ∷ Len ∷ Read 0 count ∷ []) served new
-    → (served ≡ true) × (new ≡ record (restarted disk) { calls = risen (risen (risen disk.calls)) })
+    → (served ≡ true) × (new ≡ record (restarted disk) { calls = counted (counted (counted disk.calls)) })
 opened_once_restarted disk new count served none ran =
     let is = ran_is (restarted disk) (Sync ∷ Len ∷ Read 0 count ∷ []) served new ran in
     let ends = opening_is_served (restarted disk) 0 count none refl refl in

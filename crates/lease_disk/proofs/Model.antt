@@ -1,21 +1,18 @@
 -- What each call of a disk in memory does to its images and to its faults.
-use Rattle.std.proofs.Common.{◌≡◌, ◌⊎◌, inl, inr, ℕ, ◌+◌, ◌-◌, ◌^◌, ◌≤◌, min, Bool, true, false, not, ◌&&◌, List, ◌∷◌, length, if◌then◌else◌, is_ok, is_err, Result, Ok, Err, OnOk, Some, refl, sym, ◌∙◌, ap, subst, arith}
+use Rattle.std.proofs.Common.{◌≡◌, ◌⊎◌, inl, inr, ℕ, ◌+◌, ◌-◌, ◌^◌, ◌≤◌, Bool, true, false, not, ◌&&◌, List, ◌∷◌, length, if◌then◌else◌, is_ok, is_err, Result, Ok, Err, OnOk, Some, refl, sym, ◌∙◌, ap, subst, arith}
 use Rattle.std.specs.Prelude.{IsErr}
 use Rattle.std.proofs.lemmas.Bool.Decides.{nat_tests}
 use Rattle.lease_disk.specs.declared.disk.Failed.{Failed}
 use Rattle.lease_disk.specs.Call.{Call, Len, Write, Sync}
-use Rattle.fault_counts.specs.Causes.{HasCause}
+use Rattle.fault_counts.specs.Causes.{HasCause, counted}
 use Rattle.lease_disk.specs.Images.{overwritten, Torn, ComesFrom}
 use Rattle.lease_disk.specs.PastLaws.{length-overwritten, overwritten_before, overwritten_after}
 use Rattle.lease_disk.specs.Past.{Act, Wrote, Synced, content_of, is_pending, IsImage}
-use Rattle.lease_disk.specs.MemDisk.{DiskState, risen, refuses_changes, is_entered, fails, past_after, Leads, told_of, MayLeave}
+use Rattle.lease_disk.specs.MemDisk.{DiskState, refuses_changes, is_entered, fails, past_after, Leads, told_of, MayLeave}
 use Rattle.lease_disk.specs.PastLaws.{still_content}
 use Rattle.lease_disk.proofs.Changes.{torn_images, synced_from}
 
-rises : (n : ℕ) → min (n + 1) (2 ^ 64 - 1) ≤ risen n
-rises n = grind (arith, nat_tests)
-
-rises_from : (n : ℕ) → n ≤ risen n
+rises_from : (n : ℕ) → n ≤ counted n
 rises_from n = grind (arith, nat_tests)
 
 served_fails : (failing : Bool) → true ≡ not failing → failing ≡ false
@@ -30,14 +27,14 @@ refused_fails false is = is
 pub cause_of : {T : Type 0} (old new : DiskState) (call : Call) (result : Result T Failed) → Leads old call (is_ok result) new → HasCause (IsErr result) old.faults new.faults
 cause_of old new call (Ok value) leads =
     let served = served_fails (fails old call) leads.answer in
-    let same : new.faults ≡ old.faults = ap (λ (d : DiskState). d.faults) leads.disk ∙ ap (λ b. if b then risen old.faults else old.faults) served in
+    let same : new.faults ≡ old.faults = ap (λ (d : DiskState). d.faults) leads.disk ∙ ap (λ b. if b then counted old.faults else old.faults) served in
     record { never_falls = omega (arith, same); rose = λ err. absurd (cc err); stays = λ none. same }
 cause_of old new call (Err error) leads =
     let refused = refused_fails (fails old call) leads.answer in
-    let rose : new.faults ≡ risen old.faults = ap (λ (d : DiskState). d.faults) leads.disk ∙ ap (λ b. if b then risen old.faults else old.faults) refused in
+    let rose : new.faults ≡ counted old.faults = ap (λ (d : DiskState). d.faults) leads.disk ∙ ap (λ b. if b then counted old.faults else old.faults) refused in
     record {
       never_falls = omega (arith, rose, rises_from old.faults);
-      rose = λ err. omega (arith, rose, rises old.faults);
+      rose = λ err. omega (arith, rose);
       stays = λ none. absurd (none refl);
     }
 

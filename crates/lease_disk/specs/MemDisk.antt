@@ -1,8 +1,9 @@
 -- What callers see of a disk in memory, and what each of its calls does.
-use Rattle.std.specs.Prelude.{◌≡◌, ℕ, ◌+◌, ◌-◌, ◌^◌, max, Bool, not, ◌&&◌, ◌||◌, nat_lt, nat_le, ◌==◌, List, [], ◌∷◌, length, if◌then◌else◌, Option, Some}
+use Rattle.std.specs.Prelude.{◌≡◌, ℕ, ◌+◌, ◌-◌, max, Bool, not, ◌&&◌, ◌||◌, nat_lt, nat_le, ◌==◌, List, [], ◌∷◌, length, if◌then◌else◌, Option, Some}
 use Rattle.std.specs.List.{list_any}
 use Rattle.lease_disk.specs.declared.stop.Stop.{Stop}
 use Rattle.lease_disk.specs.declared.stop.Stop.TheVariants.{Unarmed, Armed, Met}
+use Rattle.fault_counts.specs.Causes.{counted}
 use Rattle.lease_disk.specs.Call.{Call, Len, Read, Write, Sync}
 use Rattle.lease_disk.specs.Past.{Act, Wrote, Synced, content_of, is_pending, kept_bytes, IsImage, WasImage, filled}
 use Rattle.lease_disk.specs.Stop.{is_met, is_stopping, stop_after, armed}
@@ -35,13 +36,9 @@ first_place = 8
 abbrev pub new_disk : ℕ → List ℕ → DiskState
 new_disk room failing = record { base = []; past = []; calls = 0; failing = failing; stop = Unarmed; room = room; entry_place = first_place; byte_place = room + first_place; faults = 0 }
 
--- a count that rises by one, and stands still at its type's end
-abbrev pub risen : ℕ → ℕ
-risen n = if nat_lt n (2 ^ 64 - 1) then n + 1 else n
-
 -- whether the next call is one of those that fail
 abbrev pub is_listed : DiskState → Bool
-is_listed disk = list_any (λ number. number == risen disk.calls) disk.failing
+is_listed disk = list_any (λ number. number == counted disk.calls) disk.failing
 
 -- whether the next call fails where it only looks: it is listed, or the disk has stopped
 abbrev pub refuses_looks : DiskState → Bool
@@ -82,7 +79,7 @@ stop_after_call stop Sync = stop_after stop
 
 -- the disk after its next call
 abbrev pub after_call : DiskState → Call → DiskState
-after_call disk call = record disk { past = past_after disk call; calls = risen disk.calls; stop = stop_after_call disk.stop call; faults = if fails disk call then risen disk.faults else disk.faults }
+after_call disk call = record disk { past = past_after disk call; calls = counted disk.calls; stop = stop_after_call disk.stop call; faults = if fails disk call then counted disk.faults else disk.faults }
 
 -- the call is served exactly where it does not fail, and leads to this disk
 pub record Leads (old : DiskState) (call : Call) (served : Bool) (new : DiskState) : Type 0 where

@@ -3,6 +3,7 @@ use Rattle.std.proofs.Common.{◌≡◌, ◌⊎◌, inl, inr, ℕ, suc, ◌+◌,
 use Rattle.std.specs.List.{list_any}
 use Rattle.std.proofs.lemmas.Bool.{cases_lt}
 use Rattle.std.proofs.lemmas.Bool.Decides.{nat_tests}
+use Rattle.fault_counts.specs.Causes.{counted}
 use Rattle.lease_disk.specs.declared.stop.Stop.{Stop}
 use Rattle.lease_disk.specs.declared.stop.Stop.TheVariants.{Unarmed, Armed, Met}
 use Rattle.lease_disk.specs.Call.{Call, Len, Read, Write, Sync}
@@ -11,7 +12,7 @@ use Rattle.lease_disk.specs.Images.{overwritten}
 use Rattle.lease_disk.specs.Past.{Act, Wrote, Synced, content_of, is_pending, kept_bytes, filled}
 use Rattle.lease_disk.specs.PastLaws.{filled_last}
 use Rattle.lease_disk.specs.Stop.{is_met, is_stopping, stop_after, stops_within}
-use Rattle.lease_disk.specs.MemDisk.{DiskState, risen, is_listed, refuses_looks, refuses_changes, has_place, is_entered, fails, past_after, stop_after_call, after_call, Leads, reserved, left_by, restarted}
+use Rattle.lease_disk.specs.MemDisk.{DiskState, is_listed, refuses_looks, refuses_changes, has_place, is_entered, fails, past_after, stop_after_call, after_call, Leads, reserved, left_by, restarted}
 
 -- whether every call of a run is served
 abbrev pub is_run_served : DiskState → List Call → Bool
@@ -108,7 +109,7 @@ pub record FallsAtStop (disk : DiskState) (calls : List Call) : Type 0 where
   pub byte_place : (after_run disk calls).byte_place ≡ disk.byte_place
 
 unlisted_call : (disk : DiskState) → disk.failing ≡ [] → is_listed disk ≡ false
-unlisted_call disk none = ap (list_any (λ number. number == risen disk.calls)) none
+unlisted_call disk none = ap (list_any (λ number. number == counted disk.calls)) none
 
 -- a stop that does not fall at the next write or sync is not met by it
 unmet_after : (stop : Stop) → is_stopping stop ≡ false → is_met (stop_after stop) ≡ false
@@ -306,15 +307,15 @@ ready_once_reserved disk calls entries bytes none unmet within few short = recor
 -- A disk on which no call is listed, no stop armed and no write pending serves an opening, which makes no entry: it
 -- syncs, asks for the length and reads.
 pub opening_is_served : (disk : DiskState) (at count : ℕ) → disk.failing ≡ [] → disk.stop ≡ Unarmed → is_pending disk.past ≡ false
-    → (is_run_served disk (Sync ∷ Len ∷ Read at count ∷ []) ≡ true) × (after_run disk (Sync ∷ Len ∷ Read at count ∷ []) ≡ record disk { calls = risen (risen (risen disk.calls)) })
+    → (is_run_served disk (Sync ∷ Len ∷ Read at count ∷ []) ≡ true) × (after_run disk (Sync ∷ Len ∷ Read at count ∷ []) ≡ record disk { calls = counted (counted (counted disk.calls)) })
 opening_is_served disk at count none unarmed still =
     let first = quiet_sync disk none unarmed still in
     let unmet : is_met disk.stop ≡ false = ap is_met unarmed in
-    let once : DiskState = record disk { calls = risen disk.calls } in
-    let twice : DiskState = record disk { calls = risen (risen disk.calls) } in
+    let once : DiskState = record disk { calls = counted disk.calls } in
+    let twice : DiskState = record disk { calls = counted (counted disk.calls) } in
     let second = one_more disk once Sync (Len ∷ Read at count ∷ []) first.0 first.1 in
     let third = one_more once twice Len (Read at count ∷ []) (look_works once none unmet) (looked once Len (look_works once none unmet) refl refl) in
-    let fourth = one_more twice (record disk { calls = risen (risen (risen disk.calls)) }) (Read at count) [] (look_works twice none unmet) (looked twice (Read at count) (look_works twice none unmet) refl refl) in
+    let fourth = one_more twice (record disk { calls = counted (counted (counted disk.calls)) }) (Read at count) [] (look_works twice none unmet) (looked twice (Read at count) (look_works twice none unmet) refl refl) in
     (second.0 ∙ third.0 ∙ fourth.0, second.1 ∙ third.1 ∙ fourth.1)
   where
     -- one call that is served
@@ -325,14 +326,14 @@ opening_is_served disk at count none unarmed still =
     )
 
     -- a look that is served counts, and changes nothing else
-    looked : (disk : DiskState) (call : Call) → fails disk call ≡ false → past_after disk call ≡ disk.past → stop_after_call disk.stop call ≡ disk.stop → after_call disk call ≡ record disk { calls = risen disk.calls }
+    looked : (disk : DiskState) (call : Call) → fails disk call ≡ false → past_after disk call ≡ disk.past → stop_after_call disk.stop call ≡ disk.stop → after_call disk call ≡ record disk { calls = counted disk.calls }
     looked disk call works past stop =
-        ap (λ p. record disk { past = p; calls = risen disk.calls; stop = stop_after_call disk.stop call; faults = if fails disk call then risen disk.faults else disk.faults }) past
-        ∙ ap (λ s. record disk { calls = risen disk.calls; stop = s; faults = if fails disk call then risen disk.faults else disk.faults }) stop
-        ∙ ap (λ b. record disk { calls = risen disk.calls; faults = if b then risen disk.faults else disk.faults }) works
+        ap (λ p. record disk { past = p; calls = counted disk.calls; stop = stop_after_call disk.stop call; faults = if fails disk call then counted disk.faults else disk.faults }) past
+        ∙ ap (λ s. record disk { calls = counted disk.calls; stop = s; faults = if fails disk call then counted disk.faults else disk.faults }) stop
+        ∙ ap (λ b. record disk { calls = counted disk.calls; faults = if b then counted disk.faults else disk.faults }) works
 
     -- so does a sync where nothing is pending
-    quiet_sync : (disk : DiskState) → disk.failing ≡ [] → disk.stop ≡ Unarmed → is_pending disk.past ≡ false → (fails disk Sync ≡ false) × (after_call disk Sync ≡ record disk { calls = risen disk.calls })
+    quiet_sync : (disk : DiskState) → disk.failing ≡ [] → disk.stop ≡ Unarmed → is_pending disk.past ≡ false → (fails disk Sync ≡ false) × (after_call disk Sync ≡ record disk { calls = counted disk.calls })
     quiet_sync disk none unarmed still =
         let works : fails disk Sync ≡ false =
         ap (λ b. b || (is_pending disk.past && not (has_place disk 0))) (refuses_at_stop disk none)

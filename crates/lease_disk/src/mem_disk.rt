@@ -1,15 +1,17 @@
 // A disk in memory that fails when it is told to, and stops. It keeps a record of all that was written.
 ghost use Rattle.std.specs.Prelude.{◌≡◌, ◌+◌, ◌^◌, ◌<◌, ◌≤◌, ◌==◌, ◌∷◌, ℕ, List, length, not, false, Some, is_ok, slice_index, IsTrue, IfOk, OnOk, OnErr, refl};
 ghost use Rattle.std.specs.List.{list_any};
+ghost use Rattle.fault_counts.specs.Causes.{counted};
 ghost use Rattle.lease_disk.specs.Call.{Len, Write, Sync};
 ghost use Rattle.lease_disk.specs.Past.{Wrote, Synced, content_of, is_pending, IsPending};
 ghost use Rattle.lease_disk.specs.PastLaws.{only_image, now_counts, content_now};
 ghost use Rattle.lease_disk.specs.Stop.{is_met, stop_after};
-ghost use Rattle.lease_disk.specs.MemDisk.{new_disk, risen, refuses_looks, refuses_changes, has_place, Leads, told_of, MayLeave, clock_of, MayHaveLeft, reserved, stopped_at, restarted};
+ghost use Rattle.lease_disk.specs.MemDisk.{new_disk, refuses_looks, refuses_changes, has_place, Leads, told_of, MayLeave, clock_of, MayHaveLeft, reserved, stopped_at, restarted};
 
 use crate::content::{append, copy_out, leave, write_over};
 use crate::stop::{Stop, counted_down, fails_next, was_met};
 use crate::{Disk, Failed};
+use fault_counts::one_more;
 use std::alloc::{AllocError, Global};
 use std::marker::Model;
 
@@ -179,28 +181,28 @@ impl MemDisk {
 
     // Counts a call that only looks, and says whether it fails.
     fn count_look(&mut self) -> bool
-        ensures counted { self.new ≡ record self.old { calls = risen self.old.calls } }
+        ensures counted { self.new ≡ record self.old { calls = counted self.old.calls } }
         ensures refused { result ≡ refuses_looks self.old }
     {
-        self.calls = self.calls.saturating_add(1);
+        self.calls = one_more(self.calls);
         is_one_of(&self.failing, self.calls) || was_met(self.stop)
     }
 
     // Counts a write or a sync, and says whether it fails.
     fn count_change(&mut self) -> bool
-        ensures counted { self.new ≡ record self.old { calls = risen self.old.calls; stop = stop_after self.old.stop } }
+        ensures counted { self.new ≡ record self.old { calls = counted self.old.calls; stop = stop_after self.old.stop } }
         ensures refused { result ≡ refuses_changes self.old }
     {
         let stops = fails_next(self.stop);
         self.stop = counted_down(self.stop);
-        self.calls = self.calls.saturating_add(1);
+        self.calls = one_more(self.calls);
         is_one_of(&self.failing, self.calls) || stops
     }
 
     fn count_fault(&mut self)
-        ensures counted { self.new ≡ record self.old { faults = risen self.old.faults } }
+        ensures counted { self.new ≡ record self.old { faults = counted self.old.faults } }
     {
-        self.faults = self.faults.saturating_add(1);
+        self.faults = one_more(self.faults);
     }
 
     // Whether the record takes one entry more, with so many bytes.

@@ -4,6 +4,7 @@ use Rattle.std.specs.Prelude.{if◌then◌else◌, Option, Some, None}
 use Rattle.std.proofs.lemmas.Bool.{cases_lt}
 use Rattle.std.proofs.lemmas.List.{length-replicate}
 use Rattle.aip_addr.specs.declared.ids.KeyId.{KeyId}
+use Rattle.fault_counts.specs.Causes.{counted}
 use Rattle.lease_disk.specs.declared.stop.Stop.{Stop}
 use Rattle.lease_disk.specs.declared.stop.Stop.TheVariants.{Unarmed, Armed, Met}
 use Rattle.lease_disk.specs.Call.{Call, Len, Read, Sync}
@@ -13,7 +14,7 @@ use Rattle.lease_disk.specs.Kept.{gated}
 use Rattle.lease_disk.specs.Past.{Wrote, Synced, content_of, is_pending, filled, kept_bytes}
 use Rattle.lease_disk.specs.PastLaws.{filled_last, length-overwritten}
 use Rattle.lease_disk.specs.Stop.{armed, is_met, stops_within}
-use Rattle.lease_disk.specs.MemDisk.{DiskState, Leads, left_by, new_disk, reserved, restarted, risen, stopped_at}
+use Rattle.lease_disk.specs.MemDisk.{DiskState, Leads, left_by, new_disk, reserved, restarted, stopped_at}
 use Rattle.lease_disk.specs.Runs.{IsReadyFor, after_run, changes_in, falls_at_stop, opening_is_served, ran_is, run_past, run_stop}
 use Rattle.shutoff_filter.specs.Entries.{SameInForce, entries_of}
 use Rattle.shutoff_filter.specs.FilterFile.{IsFilter, IsFilterOf, file_size, open_gate, slot_in, slot_start}
@@ -81,7 +82,7 @@ served_format room new served ran =
 
 -- An opening of a quiet disk is served, and makes no entry.
 pub served_opening : (disk new : DiskState) (count : ℕ) (served : Bool) → IsQuiet disk → Ran Leads disk (Sync ∷ Len ∷ Read 0 count ∷ []) served new
-    → (served ≡ true) × (new ≡ record disk { calls = risen (risen (risen disk.calls)) })
+    → (served ≡ true) × (new ≡ record disk { calls = counted (counted (counted disk.calls)) })
 served_opening disk new count served quiet ran =
     let is = ran_is disk (Sync ∷ Len ∷ Read 0 count ∷ []) served new ran in
     let ends = opening_is_served disk 0 count quiet.unlisted quiet.unarmed quiet.still in

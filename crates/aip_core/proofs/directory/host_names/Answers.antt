@@ -2,7 +2,7 @@ use Rattle.std.proofs.Common.{◌∙◌, ap, List, ℕ}
 use Rattle.std.specs.List.{position_from}
 use Rattle.std.specs.Ordering.{is_eq}
 use Rattle.std.proofs.lemmas.Result.{IfOk-weaker}
-use Rattle.aip_core.specs.Directory.{name_cmp}
+use Rattle.aip_topo.specs.Index.{name_cmp}
 use Rattle.aip_core.proofs.Keys.{host_by_name}
 use Rattle.aip_core.proofs.directory.host_names.Goals as goal
 

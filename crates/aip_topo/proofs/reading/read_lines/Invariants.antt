@@ -7,7 +7,7 @@ use Rattle.aip_topo.proofs.reading.read_lines.Given as goal
 abbrev pub invariant-lines : goal.invariant-lines
 invariant-lines l =
     record {
-      same : with_lines (length l.text) l.number l.start l.draft (lines_of l.rest) ≡ with_lines (length l.fn.text) 1 0 l.fn.draft (lines_of l.fn.text);
+      same : with_lines (length l.text) l.number l.start l.draft (lines_of l.rest) ≡ with_lines (length l.fn.text) 1 0 l.fn.begun (lines_of l.fn.text);
       counted : l.number ≤ l.start + 1;
       short : l.start ≤ 1048577;
       placed : 0 < length l.rest → l.start + length l.rest ≤ length l.text;
