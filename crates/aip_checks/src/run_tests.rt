@@ -148,9 +148,10 @@ fn no_core_comes_back_from_a_fault(rt: HostRuntime) -> Result<(), Fail> {
 const CHECKED: &[u8] =
     b"domain d id 0111111111111111111111111111111111111100\nrouter r d checking 0000000000000000000000000000000000000000000000000000000000000000\nhost a r plain seed W4 H5 0 3131313131313131313131313131313131313131313131313131313131313131\nhost b r plain id 01bbbbbbbbbbbbbbbbbbbbbbbbbbbbbbbbbbbb00\n";
 
-// A packet is asked about, the answer is taken, and the next packet is forwarded. Behind a restart the next is asked about.
-const ASKED_TWICE: &[u8] =
-    b"send a b 1 00\ndeliver 0\ndeliver 1\ndeliver 2\nsend a b 2 00\ndeliver 3\nrestart r\nsend a b 3 00\ndeliver 5\ndeliver 6\n";
+// A packet is asked about, and the answer taken. For 600 ticks a packet is forwarded, here at the last of them. At the next
+// tick a packet is asked about anew, the answer taken, and another forwarded; and so again behind a restart.
+const ASKED_AGAIN: &[u8] =
+    b"send a b 1 00\ndeliver 0\ndeliver 1\ndeliver 2\ntick 599\nsend a b 2 00\ndeliver 3\ntick 1\nsend a b 3 00\ndeliver 5\ndeliver 6\ndeliver 7\nsend a b 4 00\ndeliver 8\nrestart r\nsend a b 5 00\ndeliver 10\ndeliver 11\n";
 
 // How many lines of a trace begin with this.
 fn lines_with(trace: &[u8], start: &[u8]) -> usize {
@@ -161,18 +162,19 @@ fn lines_with(trace: &[u8], start: &[u8]) -> usize {
 }
 
 #[test]
-fn a_router_forgets_what_it_accepted_when_it_starts_anew(rt: HostRuntime) -> Result<(), Fail> {
+fn a_router_forgets_what_it_accepted_in_time_and_by_a_restart(rt: HostRuntime) -> Result<(), Fail> {
     let alloc = rt.alloc();
     let mut files = Vec::new(alloc);
     files.push(file(alloc, "topo.txt", CHECKED)?)?;
-    files.push(file(alloc, "sched.txt", ASKED_TWICE)?)?;
+    files.push(file(alloc, "sched.txt", ASKED_AGAIN)?)?;
     let mut shelf = MemShelf::new(alloc, files, Vec::new(alloc), 64)?;
     let mut sink = MemSink::new(alloc, 65536, Vec::new(alloc), 4096)?;
     let line = ["run", "topo.txt", "sched.txt"];
     let (status, _, _) = obey(alloc, &line, &mut shelf, &mut sink, disk(alloc, 0)?)?;
     assert_eq!(rt; status, Status::Done);
-    assert_eq!(rt; lines_with(sink.taken(), b"< proved r "), 1);
-    assert_eq!(rt; lines_with(sink.taken(), b"< forward r 0 1 "), 1);
-    assert_eq!(rt; lines_with(sink.taken(), b"< signed a "), 2);
+    assert_eq!(rt; lines_with(sink.taken(), b"< ask r 0 0"), 3);
+    assert_eq!(rt; lines_with(sink.taken(), b"< signed a "), 3);
+    assert_eq!(rt; lines_with(sink.taken(), b"< proved r "), 2);
+    assert_eq!(rt; lines_with(sink.taken(), b"< forward r 0 1 proved"), 2);
     Ok(())
 }
